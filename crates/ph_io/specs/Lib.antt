@@ -1,0 +1,4 @@
+pub mod Told
+pub mod Reads
+pub mod Writes
+pub mod Forms
