@@ -12,7 +12,8 @@ pub record TapeState : Type 0 where
 abbrev pub unread : List ℕ → TapeState
 unread bytes = record { left = bytes; taken = [] }
 
--- a source in memory: its tape, its counts, the most bytes that a read moves, the numbers of the reads that fail, and how many reads there were
+-- a source in memory: its tape, its counts, the most bytes that a read moves, the numbers of the
+-- reads that fail, and how many reads there were
 pub record MemSourceState : Type 0 where
   pub tape : TapeState
   pub ends : ℕ
@@ -23,11 +24,23 @@ pub record MemSourceState : Type 0 where
 
 -- a source in memory that was not read yet
 abbrev pub unread_mem : List ℕ → ℕ → List ℕ → MemSourceState
-unread_mem bytes most failing = record { tape = unread bytes; ends = 0; faults = 0; most = most; failing = failing; reads = 0 }
+unread_mem bytes most failing = record {
+  tape = unread bytes;
+  ends = 0;
+  faults = 0;
+  most = most;
+  failing = failing;
+  reads = 0;
+}
 
 -- a source in memory tells all of its bytes
 abbrev pub told_by_mem : MemSourceState → SourceState
-told_by_mem state = record { left = Some state.tape.left; taken = Some state.tape.taken; ends = state.ends; faults = state.faults }
+told_by_mem state = record {
+  left = Some state.tape.left;
+  taken = Some state.tape.taken;
+  ends = state.ends;
+  faults = state.faults;
+}
 
 -- a source that never fails: its tape and the count of its ends
 pub record SureSourceState : Type 0 where
@@ -40,13 +53,24 @@ unread_sure bytes = record { tape = unread bytes; ends = 0 }
 
 -- a source that never fails tells all of its bytes, and its count of faults is 0 for ever
 abbrev pub told_by_sure : SureSourceState → SourceState
-told_by_sure state = record { left = Some state.tape.left; taken = Some state.tape.taken; ends = state.ends; faults = 0 }
+told_by_sure state = record {
+  left = Some state.tape.left;
+  taken = Some state.tape.taken;
+  ends = state.ends;
+  faults = 0;
+}
 
 -- a source of which no content is known
 abbrev pub untold_source : ℕ → ℕ → SourceState
-untold_source ends faults = record { left = None; taken = None; ends = ends; faults = faults }
+untold_source ends faults = record {
+  left = None;
+  taken = None;
+  ends = ends;
+  faults = faults;
+}
 
--- a sink in memory: the bytes that were written, its count, the most bytes that a write takes, the numbers of the writes that fail, and how many writes there were
+-- a sink in memory: the bytes that were written, its count, the most bytes that a write takes, the
+-- numbers of the writes that fail, and how many writes there were
 pub record MemSinkState : Type 0 where
   pub bytes : List ℕ
   pub faults : ℕ
@@ -56,7 +80,13 @@ pub record MemSinkState : Type 0 where
 
 -- a sink in memory to which nothing was written yet
 abbrev pub unwritten : ℕ → List ℕ → MemSinkState
-unwritten most failing = record { bytes = []; faults = 0; most = most; failing = failing; writes = 0 }
+unwritten most failing = record {
+  bytes = [];
+  faults = 0;
+  most = most;
+  failing = failing;
+  writes = 0;
+}
 
 -- a sink in memory tells all of its bytes
 abbrev pub told_by_sink : MemSinkState → SinkState

@@ -3,7 +3,8 @@ use Rattle.std.specs.Prelude.{◌≡◌, ℕ, ◌≤◌, List}
 use Rattle.ph_base.specs.Counts.{Rose}
 use Rattle.ph_io.specs.Told.{SourceState, followed_by, preceded_by, IsSpent}
 
--- a read moved these bytes from the front of what was left to the end of what was taken, and counted nothing
+-- a read moved these bytes from the front of what was left to the end of what was taken, and
+-- counted nothing
 pub record Moves (old new : SourceState) (piece : List ℕ) : Type 0 where
   pub left : old.left ≡ preceded_by new.left piece
   pub taken : new.taken ≡ followed_by old.taken piece

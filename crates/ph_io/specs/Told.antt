@@ -1,7 +1,8 @@
 -- What a source and a sink tell of themselves.
 use Rattle.std.specs.Prelude.{◌≡◌, ℕ, List, [], ◌++◌, Option, None, Some, option_map}
 
--- what a source tells: the bytes that it has left and those that were read, where it tells them, how often a read answered the end, and how often one failed
+-- what a source tells: the bytes that it has left and those that were read, where it tells them,
+-- how often a read answered the end, and how often one failed
 pub record SourceState : Type 0 where
   pub left : Option (List ℕ)
   pub taken : Option (List ℕ)

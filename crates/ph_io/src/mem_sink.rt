@@ -22,7 +22,13 @@ pub struct MemSink {
 impl Model for MemSink {
     ghost Value = { MemSinkState };
 
-    ghost view = { λ s. record { bytes = s.bytes.items; faults = s.faults; most = s.most; failing = s.failing.items; writes = s.writes } };
+    ghost view = { λ s. record {
+      bytes = s.bytes.items;
+      faults = s.faults;
+      most = s.most;
+      failing = s.failing.items;
+      writes = s.writes;
+    } };
 
     ghost invariant = { λ s. 0 < s.most };
 }
@@ -58,7 +64,8 @@ impl Sink for MemSink {
 
         ensures some { IfOk result (λ n. 0 < n) }
         ensures within { IfOk result (λ n. n ≤ length piece.now) }
-        ensures takes { IfOk result (λ n. Takes (told_by_sink self.old) (told_by_sink self.new) (take n piece.now)) }
+        ensures takes { IfOk result (λ n.
+            Takes (told_by_sink self.old) (told_by_sink self.new) (take n piece.now)) }
         ensures fails { OnErr result (WriteFails (told_by_sink self.old) (told_by_sink self.new)) }
 
         ensures listed { is_listed self.old.failing self.old.writes ≡ true → IsErr result }

@@ -22,7 +22,14 @@ pub struct MemSource {
 impl Model for MemSource {
     ghost Value = { MemSourceState };
 
-    ghost view = { λ s. record { tape = s.tape; ends = s.ends; faults = s.faults; most = s.most; failing = s.failing.items; reads = s.reads } };
+    ghost view = { λ s. record {
+      tape = s.tape;
+      ends = s.ends;
+      faults = s.faults;
+      most = s.most;
+      failing = s.failing.items;
+      reads = s.reads;
+    } };
 
     ghost invariant = { λ s. 0 < s.most };
 }
@@ -51,12 +58,15 @@ impl Source for MemSource {
         requires { 0 < length room.old }
 
         ensures within { IfOk result (λ n. n ≤ length room.old) }
-        ensures moves { IfOk result (λ n. 0 < n → Moves (told_by_mem self.old) (told_by_mem self.new) (take n room.new)) }
-        ensures ends { IfOk result (λ n. n ≡ 0 → Ends (told_by_mem self.old) (told_by_mem self.new)) }
+        ensures moves { IfOk result (λ n. 0 < n →
+            Moves (told_by_mem self.old) (told_by_mem self.new) (take n room.new)) }
+        ensures ends { IfOk result (λ n. n ≡ 0 →
+            Ends (told_by_mem self.old) (told_by_mem self.new)) }
         ensures fails { OnErr result (ReadFails (told_by_mem self.old) (told_by_mem self.new)) }
 
         ensures listed { is_err result ≡ is_listed self.old.failing self.old.reads }
-        ensures count { IfOk result (λ n. n ≡ min self.old.most (min (length room.old) (length self.old.tape.left))) }
+        ensures count { IfOk result (λ n.
+            n ≡ min self.old.most (min (length room.old) (length self.old.tape.left))) }
         ensures reads { self.new.reads ≡ min (self.old.reads + 1) (2 ^ 64 - 1) }
         ensures most { self.new.most ≡ self.old.most }
         ensures failing { self.new.failing ≡ self.old.failing }

@@ -18,7 +18,8 @@ pub trait Sink {
 
         ensures some { IfOk result (λ n. 0 < n) }
         ensures within { IfOk result (λ n. n ≤ length piece.now) }
-        ensures takes { IfOk result (λ n. Takes (sink self.old) (sink self.new) (take n piece.now)) }
+        ensures takes { IfOk result (λ n.
+            Takes (sink self.old) (sink self.new) (take n piece.now)) }
 
         ensures fails { OnErr result (WriteFails (sink self.old) (sink self.new)) };
 }

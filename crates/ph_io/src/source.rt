@@ -19,7 +19,8 @@ pub trait Source {
         requires { 0 < length room.old }
 
         ensures within { IfOk result (λ n. n ≤ length room.old) }
-        ensures moves { IfOk result (λ n. 0 < n → Moves (source self.old) (source self.new) (take n room.new)) }
+        ensures moves { IfOk result (λ n. 0 < n →
+            Moves (source self.old) (source self.new) (take n room.new)) }
         ensures ends { IfOk result (λ n. n ≡ 0 → Ends (source self.old) (source self.new)) }
 
         ensures fails { OnErr result (ReadFails (source self.old) (source self.new)) };

@@ -43,7 +43,8 @@ impl Sink for SureSink {
 
         ensures some { IfOk result (λ n. 0 < n) }
         ensures within { IfOk result (λ n. n ≤ length piece.now) }
-        ensures takes { IfOk result (λ n. Takes (untold_sink 0) (untold_sink 0) (take n piece.now)) }
+        ensures takes { IfOk result (λ n.
+            Takes (untold_sink 0) (untold_sink 0) (take n piece.now)) }
         ensures fails { OnErr result (WriteFails (untold_sink 0) (untold_sink 0)) }
 
         ensures sure { result ≡ Ok (length piece.now) }

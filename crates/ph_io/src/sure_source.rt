@@ -40,8 +40,10 @@ impl Source for SureSource {
         requires { 0 < length room.old }
 
         ensures within { IfOk result (λ n. n ≤ length room.old) }
-        ensures moves { IfOk result (λ n. 0 < n → Moves (told_by_sure self.old) (told_by_sure self.new) (take n room.new)) }
-        ensures ends { IfOk result (λ n. n ≡ 0 → Ends (told_by_sure self.old) (told_by_sure self.new)) }
+        ensures moves { IfOk result (λ n. 0 < n →
+            Moves (told_by_sure self.old) (told_by_sure self.new) (take n room.new)) }
+        ensures ends { IfOk result (λ n. n ≡ 0 →
+            Ends (told_by_sure self.old) (told_by_sure self.new)) }
         ensures fails { OnErr result (ReadFails (told_by_sure self.old) (told_by_sure self.new)) }
 
         ensures sure { IsOk result }

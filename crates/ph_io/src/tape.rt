@@ -14,7 +14,10 @@ pub(crate) struct Tape {
 impl Model for Tape {
     ghost Value = { TapeState };
 
-    ghost view = { λ t. record { left = drop t.at t.bytes.items; taken = take t.at t.bytes.items } };
+    ghost view = { λ t. record {
+      left = drop t.at t.bytes.items;
+      taken = take t.at t.bytes.items;
+    } };
 
     ghost invariant = { λ t. t.at ≤ length t.bytes.items };
 }

@@ -7,5 +7,6 @@ loop-at-preserved g c =
     let wrote = c.in_ok-at.ensures in
     record {
       within = within_on _ _ _ (omega arith) wrote.within;
-      written = takes_on c.args.bytes.now c.loop-at.at c.in_ok-at.field-0 c.loop-at.invariant.written wrote.takes;
+      written = takes_on c.args.bytes.now c.loop-at.at c.in_ok-at.field-0
+          c.loop-at.invariant.written wrote.takes;
     }
