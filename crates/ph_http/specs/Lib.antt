@@ -1,0 +1,10 @@
+pub mod Calls
+pub mod Cut
+pub mod Digits
+pub mod Headers
+pub mod Items
+pub mod Replies
+pub mod Requests
+pub mod Talk
+pub mod TalkState
+pub mod Verdict

@@ -1,0 +1,23 @@
+//! Requests from bytes, in whatever pieces these come, and replies to bytes.
+#![tactic(auto)]
+
+mod cut;
+mod fields;
+mod laws;
+mod length;
+mod message;
+mod reply_text;
+mod request;
+mod talk;
+mod verdict;
+
+pub use laws::{
+    few_bytes_wait, items_are_given, items_go_on, items_of_a_front, more_only_before_the_end,
+    no_end_before_it_is_told, the_end_comes,
+};
+pub use message::{Next, Raw, Reply};
+pub use reply_text::render;
+pub use talk::Talk;
+
+#[cfg(test)]
+mod tests;
