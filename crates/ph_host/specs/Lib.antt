@@ -1,0 +1,9 @@
+pub mod Calls
+pub mod Docs
+pub mod Endings
+pub mod Fetch
+pub mod History
+pub mod Plans
+pub mod Served
+pub mod Session
+pub mod Written
