@@ -9,6 +9,8 @@ mod fetch;
 mod host;
 mod plans;
 mod session;
+#[cfg(test)]
+mod tests;
 
 pub use host::{plan, run_once};
 pub use plans::Plan;

@@ -1,0 +1,174 @@
+use crate::run_once;
+use ph_base::{Bytes, NoMemory};
+use ph_io::{MemSink, MemSource};
+use std::alloc::Global;
+use std::test::Fail;
+
+const CREATE: &[u8] =
+    b"POST /v1/payment_intents HTTP/1.1\r\nHost: localhost\r\nAuthorization: Bearer sk_test_payhost\r\nContent-Length: 24\r\n\r\namount=2000&currency=usd";
+
+const RETRIEVE: &[u8] =
+    b"GET /v1/payment_intents/pi_0000000000000002 HTTP/1.1\r\nHost: localhost\r\nAuthorization: Bearer sk_test_payhost\r\n\r\n";
+
+const RETRIEVE_OTHER: &[u8] =
+    b"GET /v1/payment_intents/pi_0000000000000009 HTTP/1.1\r\nHost: localhost\r\nAuthorization: Bearer sk_test_payhost\r\n\r\n";
+
+const PUT: &[u8] =
+    b"PUT /v1/payment_intents/pi_0000000000000002 HTTP/1.1\r\nHost: localhost\r\nAuthorization: Bearer sk_test_payhost\r\n\r\n";
+
+const OTHER_PATH: &[u8] =
+    b"GET /v1/charges HTTP/1.1\r\nHost: localhost\r\nAuthorization: Bearer sk_test_payhost\r\n\r\n";
+
+const INTENT: &[u8] =
+    b"HTTP/1.1 200 OK\r\nContent-Type: application/json\r\nContent-Length: 503\r\n\r\n{\"amount\":2000,\"amount_capturable\":0,\"amount_received\":0,\"application_fee_amount\":null,\"cancellation_reason\":null,\"capture_method\":\"automatic\",\"client_secret\":\"pi_0000000000000002_secret_payhost\",\"created\":1700000000,\"currency\":\"usd\",\"description\":null,\"id\":\"pi_0000000000000002\",\"last_payment_error\":null,\"latest_charge\":null,\"livemode\":false,\"metadata\":{},\"next_action\":null,\"object\":\"payment_intent\",\"payment_method\":null,\"status\":\"requires_payment_method\",\"transfer_data\":null,\"transfer_group\":null}";
+
+const MISSING: &[u8] =
+    b"HTTP/1.1 404 Not Found\r\nContent-Type: application/json\r\nContent-Length: 109\r\n\r\n{\"error\":{\"code\":\"resource_missing\",\"message\":\"No such object.\",\"param\":\"id\",\"type\":\"invalid_request_error\"}}";
+
+const CLOSING: &[u8] =
+    b"HTTP/1.1 501 Not Implemented\r\nContent-Type: application/json\r\nContent-Length: 71\r\nConnection: close\r\n\r\n{\"error\":{\"message\":\"Not implemented.\",\"type\":\"invalid_request_error\"}}";
+
+// The parts, one after another.
+fn joined(alloc: Global, parts: &[&[u8]]) -> Result<Vec<u8>, NoMemory> {
+    let mut all = Vec::new(alloc);
+    for part in parts {
+        all.extend_from_slice(part)?;
+    }
+    Ok(all)
+}
+
+// Runs the words on these parts, in reads of at most so many bytes, with the failing reads and writes of
+// these numbers, from 0; answers the status and what was written.
+fn run(
+    alloc: Global,
+    words: &[&[u8]],
+    parts: &[&[u8]],
+    most: usize,
+    failing_reads: &[u64],
+    failing_writes: &[u64],
+) -> Result<(u8, Vec<u8>), NoMemory> {
+    let mut list = Vec::new(alloc);
+    for word in words {
+        list.push(Bytes::from_slice(alloc, word)?)?;
+    }
+    let reads = Vec::from_slice(alloc, failing_reads)?;
+    let writes = Vec::from_slice(alloc, failing_writes)?;
+    let mut input = MemSource::new(joined(alloc, parts)?, most.max(1), reads);
+    let mut output = MemSink::new(alloc, 4096, writes);
+    let status = run_once(alloc, list.as_slice(), &mut input, &mut output);
+    Ok((status, Vec::from_slice(alloc, output.bytes())?))
+}
+
+// Whole inputs, each in one piece, in pieces of 7 and byte by byte.
+#[test]
+fn sessions_in_any_pieces(rt: HostRuntime) -> Result<(), Fail> {
+    let alloc = rt.alloc();
+    let cut = &CREATE[..CREATE.len() - 1];
+    let sessions: [(&str, &[&[u8]], u8, &[&[u8]]); 8] = [
+        ("nothing", &[], 0, &[]),
+        ("a create", &[CREATE], 0, &[INTENT]),
+        (
+            "a create and its retrieve",
+            &[CREATE, RETRIEVE],
+            0,
+            &[INTENT, INTENT],
+        ),
+        (
+            "a retrieve of another intent",
+            &[CREATE, RETRIEVE_OTHER],
+            0,
+            &[INTENT, MISSING],
+        ),
+        ("a create one byte short", &[cut], 5, &[]),
+        (
+            "a retrieve and half a create",
+            &[RETRIEVE, cut],
+            5,
+            &[MISSING],
+        ),
+        (
+            "a method that isn't taken",
+            &[CREATE, PUT, CREATE],
+            1,
+            &[INTENT, CLOSING],
+        ),
+        (
+            "a path that no call has",
+            &[CREATE, OTHER_PATH, CREATE],
+            1,
+            &[INTENT, CLOSING],
+        ),
+    ];
+    for (name, input, status, output) in sessions {
+        for most in [4096, 7, 1] {
+            let (got, written) = run(alloc, &[b"stdio".as_slice()], input, most, &[], &[])?;
+            assert_eq!(rt; got, status, "{name}");
+            assert_eq!(rt;
+                written.as_slice(),
+                joined(alloc, output)?.as_slice(),
+                "{name}"
+            );
+        }
+    }
+    Ok(())
+}
+
+// A read that fails after a whole request, a write that fails at once, and a write that fails later.
+#[test]
+fn devices_that_fail(rt: HostRuntime) -> Result<(), Fail> {
+    let alloc = rt.alloc();
+    let words = [b"stdio".as_slice()];
+    let (status, written) = run(alloc, &words, &[CREATE], 4096, &[1], &[])?;
+    assert_eq!(rt; status, 3);
+    assert_eq!(rt; written.as_slice(), INTENT);
+    let (status, written) = run(alloc, &words, &[CREATE], 4096, &[], &[0])?;
+    assert_eq!(rt; status, 4);
+    assert_eq!(rt; written.as_slice(), b"".as_slice());
+    let (status, written) = run(alloc, &words, &[CREATE, RETRIEVE], 4096, &[], &[1])?;
+    assert_eq!(rt; status, 4);
+    assert_eq!(rt; written.as_slice(), INTENT);
+    Ok(())
+}
+
+// Words that ask for nothing that payhost does.
+#[test]
+fn words_of_no_plan(rt: HostRuntime) -> Result<(), Fail> {
+    let alloc = rt.alloc();
+    let words: [&[&[u8]]; 4] = [&[], &[b"serve"], &[b"stdio", b"stdio"], &[b"STDIO"]];
+    for list in words {
+        let (status, written) = run(alloc, list, &[CREATE], 4096, &[], &[])?;
+        assert_eq!(rt; status, 2);
+        assert_eq!(rt;
+            written.as_slice(),
+            b"usage: payhost stdio|serve|drill|replay|sign|verify\n".as_slice()
+        );
+    }
+    Ok(())
+}
+
+// The thousandth reply says that the session closes, and no request behind it is answered.
+#[test]
+fn a_session_serves_a_thousand_requests(rt: HostRuntime) -> Result<(), Fail> {
+    let alloc = rt.alloc();
+    let mut requests = Vec::new(alloc);
+    for _ in 0..1001 {
+        requests.extend_from_slice(RETRIEVE)?;
+    }
+    let (status, written) = run(
+        alloc,
+        &[b"stdio".as_slice()],
+        &[requests.as_slice()],
+        4096,
+        &[],
+        &[],
+    )?;
+    assert_eq!(rt; status, 1);
+    let last =
+        b"Content-Length: 109\r\nConnection: close\r\n\r\n{\"error\":{\"code\":\"resource_missing\",\"message\":\"No such object.\",\"param\":\"id\",\"type\":\"invalid_request_error\"}}".as_slice();
+    assert_eq!(rt;
+        written.len(),
+        1000 * MISSING.len() + b"Connection: close\r\n".len()
+    );
+    assert!(rt; written.ends_with(last));
+    Ok(())
+}
