@@ -4,19 +4,19 @@ use Rattle.ph_http.specs.Calls.{IsFront}
 use Rattle.ph_http.specs.Items.{Item, Continue, Request, Close, Cut, End, First, Wants, Has, first, and_then, items_up_to, items_from}
 use Rattle.ph_http.specs.Talk.{Leads, goes_on}
 use Rattle.ph_http.specs.TalkState.{TalkState, grown}
-use Rattle.ph_http.proofs.FirstLemmas.{first_keeps, first_more, first_shorter}
+use Rattle.ph_http.proofs.FirstLemmas.{first_keeps, first_more, first_lighter, weight, weight_few}
 
 -- enough steps give all items
-enough : (n m : ℕ) (talk : TalkState) → length talk.unread < n → length talk.unread < m → items_up_to n talk ≡ items_up_to m talk
+enough : (n m : ℕ) (talk : TalkState) → weight talk < n → weight talk < m → items_up_to n talk ≡ items_up_to m talk
 enough zero m talk h k = absurd (omega arith)
 enough (suc n) zero talk h k = absurd (omega arith)
 enough (suc n) (suc m) talk h k = at (λ after less. enough n m after (omega arith) (omega arith)) (first talk) refl
   where
-    rest : ((after : TalkState) → length after.unread < length talk.unread → items_up_to n after ≡ items_up_to m after)
+    rest : ((after : TalkState) → weight after < weight talk → items_up_to n after ≡ items_up_to m after)
         → (item : Item) (after : TalkState) → first talk ≡ Has item after → goes_on item ≡ true → items_up_to n after ≡ items_up_to m after
-    rest more item after e goes = more after (first_shorter talk after item e goes)
+    rest more item after e goes = more after (first_lighter talk after item e goes)
 
-    at : ((after : TalkState) → length after.unread < length talk.unread → items_up_to n after ≡ items_up_to m after)
+    at : ((after : TalkState) → weight after < weight talk → items_up_to n after ≡ items_up_to m after)
         → (f : First) → first talk ≡ f → and_then f (items_up_to n) ≡ and_then f (items_up_to m)
     at more Wants e = refl
     at more (Has Continue after) e = ap (λ (xs : List Item). Continue ∷ xs) (rest more Continue after e refl)
@@ -30,16 +30,16 @@ unrolled : (talk : TalkState) → items_from talk ≡ and_then (first talk) (ite
 unfolding items_from
 unrolled talk = let e : 2 * length talk.unread + 1 ≡ suc (2 * length talk.unread) = omega arith in ap (λ n. items_up_to n talk) e
 
-more_steps : (talk : TalkState) (n : ℕ) → length talk.unread < n → items_up_to n talk ≡ items_from talk
+more_steps : (talk : TalkState) (n : ℕ) → weight talk < n → items_up_to n talk ≡ items_from talk
 unfolding items_from
-more_steps talk n h = enough n (2 * length talk.unread + 1) talk h (omega arith)
+more_steps talk n h = let w = weight_few talk in enough n (2 * length talk.unread + 1) talk h (omega arith)
 
 -- behind an item that goes on come those of the talk after it
 pub items_next : (talk after : TalkState) (item : Item) → first talk ≡ Has item after → goes_on item ≡ true → items_from talk ≡ item ∷ items_from after
 items_next talk after item h goes = unrolled talk ∙ ap (λ f. and_then f (items_up_to (2 * length talk.unread))) h ∙ at item goes
   where
     all : items_up_to (2 * length talk.unread) after ≡ items_from after
-    all = let s = first_shorter talk after item h goes in more_steps after (2 * length talk.unread) (omega arith)
+    all = let s = first_lighter talk after item h goes in let w = weight_few talk in more_steps after (2 * length talk.unread) (omega arith)
 
     at : (item : Item) → goes_on item ≡ true → and_then (Has item after) (items_up_to (2 * length talk.unread)) ≡ item ∷ items_from after
     at Continue g = ap (λ (xs : List Item). Continue ∷ xs) all
@@ -62,6 +62,18 @@ items_last talk after item h stops = unrolled talk ∙ ap (λ f. and_then f (ite
 -- where more bytes are wanted there is none
 pub items_none : (talk : TalkState) → first talk ≡ Wants → items_from talk ≡ []
 items_none talk h = unrolled talk ∙ ap (λ f. and_then f (items_up_to (2 * length talk.unread))) h
+
+-- and the other way
+pub none_wants : (talk : TalkState) → items_from talk ≡ [] → first talk ≡ Wants
+none_wants talk h = at (first talk) (sym (unrolled talk) ∙ h)
+  where
+    at : (f : First) → and_then f (items_up_to (2 * length talk.unread)) ≡ [] → f ≡ Wants
+    at Wants e = refl
+    at (Has Continue after) e = absurd cc
+    at (Has (Request raw) after) e = absurd cc
+    at (Has (Close status) after) e = absurd cc
+    at (Has Cut after) e = absurd cc
+    at (Has End after) e = absurd cc
 
 -- ---- a list of items
 
@@ -116,4 +128,4 @@ steps_more (suc n) talk more ended before = at (λ after same. steps_more n afte
 
 pub items_more : (talk : TalkState) (more : List ℕ) (ended : Bool) → talk.ended ≡ false → IsFront (items_from talk) (items_from (grown talk more ended))
 items_more talk more ended before =
-    subst (λ (xs : List Item). IsFront xs (items_from (grown talk more ended))) (more_steps talk (2 * length talk.unread + 1) (omega arith)) (steps_more (2 * length talk.unread + 1) talk more ended before)
+    subst (λ (xs : List Item). IsFront xs (items_from (grown talk more ended))) (let w = weight_few talk in more_steps talk (2 * length talk.unread + 1) (omega arith)) (steps_more (2 * length talk.unread + 1) talk more ended before)

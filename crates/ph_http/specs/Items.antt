@@ -1,9 +1,9 @@
 -- The items of a list of bytes: the requests, and what ends a session.
-use Rattle.std.specs.Prelude.{ℕ, zero, suc, ◌+◌, ◌*◌, Bool, ◌==◌, nat_le, if◌then◌else◌, List, [], ◌∷◌, length, take, drop, Option, Some, None}
+use Rattle.std.specs.Prelude.{ℕ, zero, suc, ◌+◌, ◌*◌, Bool, ◌&&◌, not, true, false, ◌==◌, nat_le, if◌then◌else◌, List, [], ◌∷◌, length, take, drop, Option, Some, None}
 use Rattle.ph_head.specs.Parts.{HeadParts}
 use Rattle.ph_http.specs.declared.message.Raw.{Raw}
 use Rattle.ph_http.specs.Cut.{leading, head_len}
-use Rattle.ph_http.specs.Requests.{raw_of}
+use Rattle.ph_http.specs.Requests.{expects, raw_of}
 use Rattle.ph_http.specs.TalkState.{TalkState, talk_of}
 use Rattle.ph_http.specs.Verdict.{Judgement, Closes, Accepts, judgement_of}
 
@@ -34,14 +34,18 @@ head_limit = 16384
 -- where the first 16,384 bytes hold no whole head
 abbrev pub without_head : TalkState → First
 without_head talk =
-    if nat_le head_limit (length talk.unread) then Has (Close 501) talk
+    if nat_le head_limit (length talk.unread) then Has (Close 431) talk
     else at_end talk (if leading talk.unread == length talk.unread then End else Cut)
+
+-- a request of this head whose body of n bytes is there; its 100 line comes first, if it asks for one that wasn't given
+abbrev pub with_whole : HeadParts → ℕ → List ℕ → TalkState → First
+with_whole head n rest talk =
+    if expects head.minor head.headers n && not talk.continued then Has Continue (record talk { continued = true })
+    else Has (Request (raw_of head (take n rest))) (record talk { unread = drop n rest; continued = false })
 
 -- a request of this head with a body of n bytes, where these bytes stand behind the head
 abbrev pub with_body : HeadParts → ℕ → List ℕ → TalkState → First
-with_body head n rest talk =
-    if nat_le n (length rest) then Has (Request (raw_of head (take n rest))) (record talk { unread = drop n rest })
-    else at_end talk Cut
+with_body head n rest talk = if nat_le n (length rest) then with_whole head n rest talk else at_end talk Cut
 
 -- behind a head that is judged so
 abbrev pub with_head : Judgement → List ℕ → TalkState → First

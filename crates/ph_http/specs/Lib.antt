@@ -1,10 +1,15 @@
 pub mod Calls
+pub mod Credentials
 pub mod Cut
 pub mod Digits
+pub mod Found
 pub mod Headers
 pub mod Items
+pub mod Judged
+pub mod Lines
 pub mod Replies
 pub mod Requests
 pub mod Talk
 pub mod TalkState
+pub mod ValueTests
 pub mod Verdict

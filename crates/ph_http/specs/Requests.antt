@@ -1,9 +1,11 @@
 -- The request that a head and a body make.
-use Rattle.std.specs.Prelude.{ℕ, ◌+◌, Bool, ◌==◌, if◌then◌else◌, List, take, drop, codes, Option, Some, None, option_and_then}
-use Rattle.std.specs.List.{position}
+use Rattle.std.specs.Prelude.{ℕ, ◌+◌, Bool, ◌&&◌, ◌||◌, ◌==◌, nat_lt, List, take, drop, codes, Option, Some, None}
+use Rattle.std.specs.List.{list_any, position, slice_split}
 use Rattle.std.specs.Str.{str_eq_ignore_ascii_case}
+use Rattle.httparse.specs.Grammar.{trim_ows}
 use Rattle.ph_head.specs.Parts.{HeadParts}
-use Rattle.ph_http.specs.Headers.{Headers, value_of}
+use Rattle.ph_http.specs.Credentials.{auth_of}
+use Rattle.ph_http.specs.Headers.{Headers, value_of, any_value}
 use Rattle.ph_http.specs.declared.message.Raw.{Raw}
 
 -- where the first question mark of the target stands
@@ -20,26 +22,17 @@ abbrev pub query_at : Option ℕ → List ℕ → Option (List ℕ)
 query_at None target = None
 query_at (Some i) target = Some (drop (i + 1) target)
 
--- the credentials that a text gives under this scheme, whose case doesn't count
-abbrev pub by_scheme : List ℕ → List ℕ → Option (List ℕ)
-by_scheme scheme text = if str_eq_ignore_ascii_case scheme (codes "bearer") then Some text else None
+-- the text is the token `close`, with blanks around it or none
+abbrev pub is_close : List ℕ → Bool
+is_close text = str_eq_ignore_ascii_case (trim_ows text) (codes "close")
 
--- the credentials of a value whose first space stands there
-abbrev pub credentials_at : Option ℕ → List ℕ → Option (List ℕ)
-credentials_at None value = None
-credentials_at (Some i) value = by_scheme (take i value) (drop (i + 1) value)
-
--- the credentials of a value: its scheme, a space and a text
-abbrev pub credentials_in : List ℕ → Option (List ℕ)
-credentials_in value = credentials_at (position (λ b. b == 32) value) value
-
--- what the first Authorization header presents
-abbrev pub auth_of : Headers → Option (List ℕ)
-auth_of headers = option_and_then credentials_in (value_of (codes "authorization") headers)
+-- one of the tokens between the commas of the value is `close`
+unfoldable pub lists_close : List ℕ → Bool
+lists_close value = list_any is_close (slice_split (λ b. b == 44) value)
 
 -- the session ends after the reply
 abbrev pub closes_after : ℕ → Headers → Bool
-closes_after minor headers = minor == 0
+closes_after minor headers = minor == 0 || any_value lists_close (codes "connection") headers
 
 -- the request of these parts
 unfoldable pub raw_with : List ℕ → List ℕ → ℕ → Headers → List ℕ → Raw
@@ -57,3 +50,11 @@ raw_with method target minor headers body = record {
 -- the request of a head and a body
 abbrev pub raw_of : HeadParts → List ℕ → Raw
 raw_of head body = raw_with head.method head.target head.minor head.headers body
+
+-- the value asks for a 100 line
+abbrev pub is_expectation : List ℕ → Bool
+is_expectation value = str_eq_ignore_ascii_case value (codes "100-continue")
+
+-- a head of this version and these headers, with a body of n bytes, asks for a 100 line before the reply
+unfoldable pub expects : ℕ → Headers → ℕ → Bool
+expects minor headers n = minor == 1 && any_value is_expectation (codes "expect") headers && nat_lt 0 n

@@ -1,9 +1,11 @@
 //! The items that a talk gives are those of the bytes fed, whatever the pieces.
-ghost use Rattle.std.specs.Prelude.{◌≡◌, ◌+◌, ◌++◌, ◌<◌, ◌⊎◌, [], ℕ, Bool, List, false, length, true};
+ghost use Rattle.std.specs.Prelude.{◌≡◌, ◌↔◌, ◌+◌, ◌++◌, ◌<◌, ◌⊎◌, [], ℕ, Bool, List, false, length, true};
 ghost use Rattle.std.specs.List.{list_all};
 ghost use Rattle.ph_http.specs.Calls.{IsFront, Run, Step, fed, given};
-ghost use Rattle.ph_http.specs.Items.{Cut, End, Has, Item, Wants, first, items_from, items_of};
+ghost use Rattle.ph_http.specs.Items.{Close, Continue, Cut, End, Has, Item, Request, Wants, first, items_from, items_of};
+ghost use Rattle.ph_http.specs.Replies.{is_status};
 ghost use Rattle.ph_http.specs.Talk.{Leads, goes_on};
+ghost use Rattle.ph_http.specs.declared.message.Raw.{Raw};
 ghost use Rattle.ph_http.specs.TalkState.{TalkState, talk_of};
 
 /// Over any calls, the items given are a front of the items of the bytes fed, each given once.
@@ -26,6 +28,11 @@ pub fn items_of_a_front()
     ensures { (bytes more : List ℕ) (ended : Bool) → IsFront (items_of bytes false) (items_of (bytes ++ more) ended) }
 {}
 
+/// More bytes are wanted exactly where no further item follows.
+pub fn more_is_no_item()
+    ensures { (talk : TalkState) → (first talk ≡ Wants) ↔ (items_from talk ≡ []) }
+{}
+
 /// More bytes are wanted only before the end is told.
 pub fn more_only_before_the_end()
     ensures { (talk : TalkState) → first talk ≡ Wants → talk.ended ≡ false }
@@ -46,4 +53,15 @@ pub fn the_end_comes()
 /// Where more bytes are wanted, fewer are unread than a head and a body may have.
 pub fn few_bytes_wait()
     ensures { (talk : TalkState) → first talk ≡ Wants → length talk.unread < 16384 + 65536 }
+{}
+
+/// A session closes only with statuses that a reply can have.
+pub fn closing_statuses_have_reasons()
+    ensures { (talk after : TalkState) (status : ℕ) → first talk ≡ Has (Close status) after → is_status status ≡ true }
+{}
+
+/// Behind a 100 line comes its request, whether more bytes follow or not.
+pub fn a_request_follows_its_continue()
+    ensures { (talk after : TalkState) → first talk ≡ Has Continue after
+        → (raw : Raw) × (last : TalkState) × (first after ≡ Has (Request raw) last) }
 {}

@@ -1,10 +1,11 @@
 //! Requests, from a head and a body.
-ghost use Rattle.std.specs.Prelude.{◌≡◌, ◌<◌, ◌==◌, All, IfOk, IfSome, length, map, option_map, option_and_then, ℕ};
-ghost use Rattle.std.specs.List.{position};
+ghost use Rattle.std.specs.Prelude.{◌≡◌, ◌<◌, ◌&&◌, not, All, IfOk, IfSome, length, map, option_map};
 ghost use Rattle.httparse.specs.Spans.{IsHeaderWithin, header_bytes};
-ghost use Rattle.ph_http.specs.Requests.{auth_of, by_scheme, credentials_in, mark_of, path_at, query_at, raw_with};
+ghost use Rattle.ph_http.specs.Credentials.{auth_of};
+ghost use Rattle.ph_http.specs.Requests.{closes_after, expects, mark_of, path_at, query_at, raw_with};
 
-use crate::fields::value_named;
+use crate::credentials::{copied, credentials};
+use crate::fields::{ValueTest, any_passes, value_named};
 use crate::message::Raw;
 use httparse::spans::HeaderSpan;
 use ph_base::{Bytes, NoMemory};
@@ -16,43 +17,6 @@ fn mark_at(target: &[u8]) -> Option<usize>
     ensures within { IfSome result (λ i. i < length target.now) }
 {
     target.iter().position(|b| *b == b'?')
-}
-
-// Where the first space of the value stands.
-fn space_at(value: &[u8]) -> Option<usize>
-    ensures value { result ≡ position (λ b. b == 32) value.now }
-    ensures within { IfSome result (λ i. i < length value.now) }
-{
-    value.iter().position(|b| *b == b' ')
-}
-
-// The credentials under this scheme.
-fn under_scheme<'b>(scheme: &[u8], text: &'b [u8]) -> Option<&'b [u8]>
-    ensures { option_map (λ v. v.now) result ≡ by_scheme scheme.now text.entry.now }
-{
-    if scheme.eq_ignore_ascii_case(b"bearer") {
-        Some(text)
-    } else {
-        None
-    }
-}
-
-// The credentials of a value of Authorization.
-fn credentials(value: &[u8]) -> Option<&[u8]>
-    ensures { option_map (λ v. v.now) result ≡ credentials_in value.entry.now }
-{
-    let space = space_at(value)?;
-    under_scheme(&value[..space], &value[space + 1..])
-}
-
-// A copy of the bytes that are there, if any are.
-fn copied(alloc: Global, bytes: Option<&[u8]>) -> Result<Option<Bytes>, NoMemory>
-    ensures { IfOk result (λ copy. copy ≡ option_map (λ b. b.now) bytes.entry) }
-{
-    match bytes {
-        Some(bytes) => Ok(Some(Bytes::from_slice(alloc, bytes)?)),
-        None => Ok(None),
-    }
 }
 
 // The target up to its first question mark.
@@ -74,12 +38,40 @@ fn query(target: &[u8]) -> Option<&[u8]>
 }
 
 // What the first Authorization header presents.
-fn presented<'b>(head: &'b [u8], headers: &[HeaderSpan]) -> Option<&'b [u8]>
+fn presented(alloc: Global, head: &[u8], headers: &[HeaderSpan]) -> Result<Option<Bytes>, NoMemory>
     requires { All (IsHeaderWithin (length head.now)) headers.now }
-    ensures { option_map (λ v. v.now) result ≡ auth_of (map (header_bytes head.now) headers.now) }
+    ensures { IfOk result (λ auth. auth ≡ auth_of (map (header_bytes head.now) headers.now)) }
 {
-    let value = value_named(head, headers, b"authorization")?;
-    credentials(value)
+    match value_named(head, headers, b"authorization") {
+        Some(value) => credentials(alloc, value),
+        None => Ok(None),
+    }
+}
+
+// The session ends after the reply.
+fn is_last(head: &[u8], minor: u8, headers: &[HeaderSpan]) -> bool
+    requires { All (IsHeaderWithin (length head.now)) headers.now }
+    ensures { result ≡ closes_after minor (map (header_bytes head.now) headers.now) }
+{
+    minor == 0 || any_passes(head, headers, b"connection", ValueTest::ListsClose)
+}
+
+/// A head of this version and these headers, with a body of n bytes, asks for a 100 line that wasn't given yet.
+#[tactic(auto, unfolding(crate::specs::Requests::expects))]
+pub fn is_continue_due(
+    head: &[u8],
+    minor: u8,
+    headers: &[HeaderSpan],
+    n: usize,
+    continued: bool,
+) -> bool
+    requires { All (IsHeaderWithin (length head.now)) headers.now }
+    ensures { result ≡ (expects minor (map (header_bytes head.now) headers.now) n && not continued) }
+{
+    minor == 1
+        && any_passes(head, headers, b"expect", ValueTest::Expectation)
+        && n > 0
+        && !continued
 }
 
 /// The request of these parts.
@@ -100,10 +92,10 @@ pub fn whole_request(
         method: Bytes::from_slice(alloc, method)?,
         path: Bytes::from_slice(alloc, path(target))?,
         query: copied(alloc, query(target))?,
-        auth: copied(alloc, presented(head, headers))?,
+        auth: presented(alloc, head, headers)?,
         key: copied(alloc, value_named(head, headers, b"idempotency-key"))?,
         account: copied(alloc, value_named(head, headers, b"stripe-account"))?,
         body: Bytes::from_slice(alloc, body)?,
-        close: minor == 0,
+        close: is_last(head, minor, headers),
     })
 }

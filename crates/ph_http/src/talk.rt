@@ -2,15 +2,15 @@
 ghost use Rattle.std.specs.Prelude.{◌≡◌, ◌++◌, ◌≤◌, IfOk, OnErr, OnOk, [], drop, false, length, true, vec_len};
 ghost use Rattle.ph_http.specs.Items.{Cut, at_end};
 ghost use Rattle.ph_http.specs.Talk.{Gives, next_of};
+ghost use Rattle.ph_http.specs.Found.{IsFound};
 ghost use Rattle.ph_http.specs.TalkState.{talk_of};
 
 use crate::cut::{head_end, leading_len};
+use crate::judged::{Judged, judge_head};
 use crate::message::Next;
-use crate::request::whole_request;
-use crate::verdict::{Verdict, judge};
+use crate::request::{is_continue_due, whole_request};
 use httparse::spans::EMPTY_HEADER_SPAN;
 use ph_base::NoMemory;
-use ph_head::read_head;
 use std::alloc::Global;
 use std::marker::Model;
 
@@ -23,6 +23,7 @@ pub struct Talk {
     alloc: Global,
     unread: Vec<u8>,
     ended: bool,
+    continued: bool,
 }
 
 impl Model for Talk {
@@ -30,7 +31,7 @@ impl Model for Talk {
 
     ghost Value = { TalkState };
 
-    ghost view = { λ t. record { unread = t.unread.items; ended = t.ended } };
+    ghost view = { λ t. record { unread = t.unread.items; ended = t.ended; continued = t.continued } };
 }
 
 impl Talk {
@@ -42,6 +43,7 @@ impl Talk {
             alloc,
             unread: Vec::new(alloc),
             ended: false,
+            continued: false,
         }
     }
 
@@ -63,52 +65,81 @@ impl Talk {
     }
 
     /// The next item of the bytes, or the want of more. A request's bytes are taken away with it; any
-    /// other answer leaves them. For want of memory nothing changes.
+    /// other answer leaves them. A 100 line comes once, directly before its request. For want of memory nothing changes.
     pub fn next(&mut self) -> Result<Next, NoMemory>
         ensures ok { IfOk result (λ next. Gives self.old next self.new) }
         ensures end { self.new.ended ≡ self.old.ended }
         ensures err { OnErr result (self.new ≡ self.old) }
     {
-        let (next, n) = first_item(self.alloc, &self.unread, self.ended)?;
-        drop_front(&mut self.unread, n);
+        let found = first_item(self.alloc, &self.unread, self.ended, self.continued)?;
+        let Found {
+            next,
+            taken,
+            continued,
+        } = found;
+        drop_front(&mut self.unread, taken);
+        self.continued = continued;
         Ok(next)
     }
 }
 
-// The first item of the bytes, and how many bytes it takes away.
-fn first_item(alloc: Global, bytes: &[u8], ended: bool) -> Result<(Next, usize), NoMemory>
-    ensures gives { IfOk result (λ found. Gives (talk_of bytes.now ended) found.0 (talk_of (drop found.1 bytes.now) ended)) }
-    ensures within { IfOk result (λ found. found.1 ≤ length bytes.now) }
+// An item, how many bytes it takes away, and whether the 100 line of the request at the front was given then.
+#[derive(Drop)]
+struct Found {
+    next: Next,
+    taken: usize,
+    continued: bool,
+}
+
+impl Found {
+    // An item that leaves the talk as it is.
+    fn kept(next: Next, continued: bool) -> Self
+        ensures { result ≡ record { next = next; taken = 0; continued = continued } }
+    {
+        Found {
+            next,
+            taken: 0,
+            continued,
+        }
+    }
+}
+
+// The first item of the bytes.
+fn first_item(alloc: Global, bytes: &[u8], ended: bool, continued: bool) -> Result<Found, NoMemory>
+    ensures gives { IfOk result (λ found. IsFound bytes.now ended continued found) }
+    ensures within { IfOk result (λ found. found.taken ≤ length bytes.now) }
 {
     let window = bytes.len().min(HEAD_LIMIT);
     let Some(end) = head_end(&bytes[..window]) else {
-        return Ok((without_head(bytes, ended), 0));
+        return Ok(Found::kept(without_head(bytes, ended), continued));
     };
     let head = &bytes[..end];
     let rest = &bytes[end..];
     let mut room = [EMPTY_HEADER_SPAN; 64];
-    let Some(spans) = read_head(head, &mut room) else {
-        return Ok((Next::Close(501), 0));
-    };
-    let headers = &room[..spans.headers];
-    let method = spans.method.of(head);
-    match judge(head, spans.version, method, headers) {
-        Verdict::Refuses(status) => Ok((Next::Close(status), 0)),
-        Verdict::Takes(n) => {
+    match judge_head(head, &mut room) {
+        Judged::Closes(status) => Ok(Found::kept(Next::Close(status), continued)),
+        Judged::Accepts(spans, n) => {
             if rest.len() < n {
-                return Ok((part_of_body(ended), 0));
+                return Ok(Found::kept(part_of_body(ended), continued));
             }
-            let target = spans.path.of(head);
+            let headers = &room[..spans.headers];
+            if is_continue_due(head, spans.version, headers, n, continued) {
+                return Ok(Found::kept(Next::Continue, true));
+            }
             let raw = whole_request(
                 alloc,
                 head,
-                method,
-                target,
+                spans.method.of(head),
+                spans.path.of(head),
                 spans.version,
                 headers,
                 &rest[..n],
             )?;
-            Ok((Next::Request(raw), end + n))
+            Ok(Found {
+                next: Next::Request(raw),
+                taken: end + n,
+                continued: false,
+            })
         }
     }
 }
@@ -125,7 +156,7 @@ fn without_head(bytes: &[u8], ended: bool) -> Next
     ensures { result ≡ next_of (Rattle.ph_http.specs.Items.without_head (talk_of bytes.now ended)) }
 {
     if bytes.len() >= HEAD_LIMIT {
-        Next::Close(501)
+        Next::Close(431)
     } else if !ended {
         Next::More
     } else if leading_len(bytes) == bytes.len() {

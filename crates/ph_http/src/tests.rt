@@ -1,6 +1,9 @@
 //! Talks told as texts, in pieces of each size, and replies as bytes.
-ghost use Rattle.std.specs.Prelude.{◌≡◌, ◌<◌};
+ghost use Rattle.std.specs.Prelude.{◌≡◌, ◌<◌, ◌≤◌, length};
 
+mod table;
+
+use self::table::profile;
 use crate::message::{Next, Raw, Reply};
 use crate::reply_text::render;
 use crate::talk::Talk;
@@ -94,93 +97,152 @@ fn check(rt: &impl Abort, alloc: Global, bytes: &[u8], items: &[u8]) -> Result<(
     Ok(())
 }
 
-// Bytes, and the items that they are by the rules of the profile.
-const CASES: [(&[u8], &[u8]); 17] = [
-    (b"", b"end;"),
-    (b"\r\n\n\r", b"end;"),
-    (b"\r\nG", b"cut;"),
-    (
-        b"POST /v1/payment_intents HTTP/1.1\r\nHost: localhost\r\nAuthorization: Bearer sk_test_payhost\r\nContent-Length: 24\r\n\r\namount=2000&currency=usd",
-        b"POST /v1/payment_intents - sk_test_payhost - - [amount=2000&currency=usd];end;",
-    ),
-    (
-        b"\nGET /v1/a?b=c?d HTTP/1.1\nauthorization:Bearer sk_test_payhost\n\nPOST / HTTP/1.1\r\nAuthorization: Bearer sk_test_payhost\r\nCONTENT-LENGTH: 0002\r\nUser-Agent:\r\n\r\nxyG",
-        b"GET /v1/a b=c?d sk_test_payhost - - [];POST / - sk_test_payhost - - [xy];cut;",
-    ),
-    (
-        b"POST / HTTP/1.1\r\nAuthorization: Bearer sk_test_payhost\r\nContent-Length: 3\r\n\r\nxy",
-        b"cut;",
-    ),
-    (
-        b"GET / HTTP/1.1\r\nAuthorization: Bearer sk_test_payhost\r\n",
-        b"cut;",
-    ),
-    (
-        b"PUT / HTTP/1.1\r\nAuthorization: Bearer sk_test_payhost\r\n\r\n",
-        b"501;",
-    ),
-    (
-        b"GET / HTTP/1.0\r\nAuthorization: Bearer sk_test_payhost\r\n\r\n",
-        b"501;",
-    ),
-    (
-        b"GET / HTTP/1.1\r\nAuthorization: Bearer sk_test_payhost\r\nAccept: a\r\nAccept: b\r\n\r\n",
-        b"501;",
-    ),
-    (
-        b"GET / HTTP/1.1\r\nAuthorization: Bearer sk_test_payhost\r\nConnection: close\r\n\r\n",
-        b"501;",
-    ),
-    (
-        b"GET / HTTP/1.1\r\nAuthorization: Bearer sk_test_other\r\n\r\n",
-        b"501;",
-    ),
-    (b"GET / HTTP/1.1\r\nHost: localhost\r\n\r\n", b"501;"),
-    (
-        b"GET / HTTP/1.1\r\nAuthorization: Bearer sk_test_payhost\r\nContent-Length: +1\r\n\r\nx",
-        b"501;",
-    ),
-    (
-        b"GET / HTTP/1.1\r\nAuthorization: Bearer sk_test_payhost\r\nContent-Length: 65537\r\n\r\n",
-        b"501;",
-    ),
-    (
-        b"GET / HTTP/1.1\r\nAuthorization: Bearer sk_test_payhost\r\nContent-Length: 18446744073709551617\r\n\r\n",
-        b"501;",
-    ),
-    (
-        b"GET  / HTTP/1.1\r\nAuthorization: Bearer sk_test_payhost\r\n\r\n",
-        b"501;",
-    ),
-];
+// Where the first such byte stands, or the length where none does.
+fn until(bytes: &[u8], wanted: u8) -> usize
+    ensures { result ≤ length bytes.now }
+{
+    for i in 0..bytes.len() {
+        if bytes[i] == wanted {
+            return i;
+        }
+    }
+    bytes.len()
+}
 
-// A head of this many bytes, with the end of its line and the empty line.
-fn head_of(alloc: Global, size: usize) -> Result<Vec<u8>, NoMemory> {
+// The bytes that a text of the table stands for: `|` for CR LF, `^` for LF and `~` for CR.
+fn decoded(alloc: Global, text: &[u8]) -> Result<Vec<u8>, NoMemory> {
+    let mut bytes = Vec::new(alloc);
+    for byte in text {
+        match *byte {
+            b'|' => bytes.extend_from_slice(b"\r\n")?,
+            b'^' => bytes.push(b'\n')?,
+            b'~' => bytes.push(b'\r')?,
+            other => bytes.push(other)?,
+        }
+    }
+    Ok(bytes)
+}
+
+// A row of the table: bytes, `>` and their items.
+fn check_row(rt: &impl Abort, alloc: Global, row: &[u8]) -> Result<(), NoMemory> {
+    let middle = until(row, b'>');
+    if middle < row.len() {
+        let bytes = decoded(alloc, &row[..middle])?;
+        check(rt, alloc, &bytes, &row[middle + 1..])?;
+    }
+    Ok(())
+}
+
+// Each row of the table.
+fn check_rows(rt: &impl Abort, alloc: Global, table: &[u8]) -> Result<usize, NoMemory> {
+    let mut rows: usize = 0;
+    let mut start = 0;
+    while start < table.len() {
+        let end = start + until(&table[start..], b'\n');
+        check_row(rt, alloc, &table[start..end])?;
+        rows = rows.saturating_add(1);
+        start = end + 1;
+    }
+    Ok(rows)
+}
+
+#[test]
+fn the_profile_row_by_row(rt: HostRuntime) -> Result<(), Fail> {
+    let rows = check_rows(&rt, rt.alloc(), profile())?;
+    assert_eq!(rt; rows, 84);
+    Ok(())
+}
+
+// A head of this many bytes.
+fn head_of_size(alloc: Global, size: usize) -> Result<Vec<u8>, NoMemory> {
     let mut head = Vec::new(alloc);
-    head.extend_from_slice(b"GET / HTTP/1.1\r\nAuthorization: Bearer sk_test_payhost\r\nAccept: ")?;
-    for _ in 0..size.saturating_sub(head.len() + 4) {
+    head.extend_from_slice(b"GET / HTTP/1.1\r\nAccept: ")?;
+    for _ in 0..size.saturating_sub(28) {
         head.push(b'a')?;
     }
     head.extend_from_slice(b"\r\n\r\n")?;
     Ok(head)
 }
 
-#[test]
-fn the_items_of_bytes_in_any_pieces(rt: HostRuntime) -> Result<(), Fail> {
-    let alloc = rt.alloc();
-    for (bytes, items) in CASES {
-        check(&rt, alloc, bytes, items)?;
+// A head with this request line, so many headers, and this text behind them.
+fn head_of_lines(
+    alloc: Global,
+    first: &[u8],
+    headers: usize,
+    last: &[u8],
+) -> Result<Vec<u8>, NoMemory> {
+    let mut head = Vec::new(alloc);
+    head.extend_from_slice(first)?;
+    for _ in 0..headers {
+        head.extend_from_slice(b"A: b\r\n")?;
     }
-    let largest = head_of(alloc, 16384)?;
+    head.extend_from_slice(last)?;
+    head.extend_from_slice(b"\r\n")?;
+    Ok(head)
+}
+
+// The bytes give these items, read in pieces of a usual size.
+fn check_pieces(
+    rt: &impl Abort,
+    alloc: Global,
+    bytes: &[u8],
+    items: &[u8],
+) -> Result<(), NoMemory> {
+    assert_eq!(rt; told(alloc, bytes, 4096)?.as_slice(), items);
+    Ok(())
+}
+
+#[test]
+fn heads_at_the_limits(rt: HostRuntime) -> Result<(), Fail> {
+    let alloc = rt.alloc();
+    let largest = head_of_size(alloc, 16384)?;
     assert_eq!(rt; largest.len(), 16384);
-    assert_eq!(rt;
-        told(alloc, &largest, 4096)?.as_slice(),
-        b"GET / - sk_test_payhost - - [];end;".as_slice()
-    );
-    assert_eq!(rt;
-        told(alloc, &head_of(alloc, 16385)?, 4096)?.as_slice(),
-        b"501;".as_slice()
-    );
+    check_pieces(
+        &rt,
+        alloc,
+        &head_of_size(alloc, 16383)?,
+        b"GET / - - - - [];end;",
+    )?;
+    check_pieces(&rt, alloc, &largest, b"GET / - - - - [];end;")?;
+    check_pieces(&rt, alloc, &head_of_size(alloc, 16385)?, b"431;")?;
+    let line = b"GET / HTTP/1.1\r\n".as_slice();
+    check_pieces(
+        &rt,
+        alloc,
+        &head_of_lines(alloc, line, 64, b"")?,
+        b"GET / - - - - [];end;",
+    )?;
+    check_pieces(&rt, alloc, &head_of_lines(alloc, line, 65, b"")?, b"431;")?;
+    check_pieces(
+        &rt,
+        alloc,
+        &head_of_lines(alloc, line, 63, b" c\r\n")?,
+        b"400;",
+    )?;
+    check_pieces(
+        &rt,
+        alloc,
+        &head_of_lines(alloc, line, 64, b" c\r\n")?,
+        b"431;",
+    )?;
+    check_pieces(
+        &rt,
+        alloc,
+        &head_of_lines(alloc, b"GET / HTTP/2.0\r\n", 65, b"")?,
+        b"431;",
+    )?;
+    Ok(())
+}
+
+#[test]
+fn a_request_cut_at_each_byte(rt: HostRuntime) -> Result<(), Fail> {
+    let alloc = rt.alloc();
+    let bytes =
+        b"\r\nPOST /a HTTP/1.1\r\nExpect: 100-continue\r\nContent-Length: 3\r\n\r\nabc".as_slice();
+    for n in 3..bytes.len() {
+        check(&rt, alloc, &bytes[..n], b"cut;")?;
+    }
+    check(&rt, alloc, bytes, b"100;POST /a - - - - [abc];end;")?;
     Ok(())
 }
 
@@ -193,21 +255,27 @@ fn replies_as_bytes(rt: HostRuntime) -> Result<(), Fail> {
         replayed: false,
         retry: false,
     };
+    let text = render(alloc, &reply, false)?;
     assert_eq!(rt;
-        render(alloc, &reply, false)?.as_slice(),
+        text.as_slice(),
         b"HTTP/1.1 200 OK\r\nContent-Type: application/json\r\nContent-Length: 2\r\n\r\n{}".as_slice()
     );
-    let last = Reply {
+    Ok(())
+}
+
+#[test]
+fn the_last_reply_as_bytes(rt: HostRuntime) -> Result<(), Fail> {
+    let alloc = rt.alloc();
+    let reply = Reply {
         status: 431,
         body: Bytes::from_slice(alloc, b"")?,
         replayed: true,
         retry: true,
     };
+    let text = render(alloc, &reply, true)?;
     assert_eq!(rt;
-        render(alloc, &last, true)?.as_slice(),
-        b"HTTP/1.1 431 Request Header Fields Too Large\r\nContent-Type: application/json\r\n\
-          Content-Length: 0\r\nIdempotent-Replayed: true\r\nStripe-Should-Retry: true\r\nConnection: close\r\n\r\n"
-            .as_slice()
+        text.as_slice(),
+        b"HTTP/1.1 431 Request Header Fields Too Large\r\nContent-Type: application/json\r\nContent-Length: 0\r\nIdempotent-Replayed: true\r\nStripe-Should-Retry: true\r\nConnection: close\r\n\r\n".as_slice()
     );
     Ok(())
 }
