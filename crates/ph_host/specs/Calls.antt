@@ -1,4 +1,4 @@
--- Which requests are calls: for now, the create of a PaymentIntent with an amount in usd, and its retrieve.
+-- Which requests are calls: for now, the create of a PaymentIntent with an amount in usd, and its retrieve, with the API key.
 use Rattle.std.specs.Prelude.{ℕ, ◌+◌, ◌-◌, Bool, false, ◌&&◌, ◌||◌, not, ◌==◌, nat_le, nat_lt, if◌then◌else◌, List, [], ◌∷◌, length, take, drop, codes, Option, Some, None, is_some, is_none}
 use Rattle.std.specs.List.{list_any}
 use Rattle.std.specs.Str.{bytes_eq}
@@ -33,10 +33,15 @@ abbrev pub amount_at : Option (List ℕ) → Option ℕ
 amount_at None = None
 amount_at (Some digits) = amount_in digits
 
+-- the text is the API key
+abbrev pub is_key : Option (List ℕ) → Bool
+is_key None = false
+is_key (Some text) = bytes_eq text (codes "sk_test_payhost")
+
 -- the amount that a create asks for: `POST /v1/payment_intents` with the body `amount=A&currency=usd`
 unfoldable pub amount_of : Raw → Option ℕ
 amount_of raw =
-    if is_none raw.query && bytes_eq raw.method (codes "POST") && bytes_eq raw.path (codes "/v1/payment_intents")
+    if is_key raw.auth && is_none raw.query && bytes_eq raw.method (codes "POST") && bytes_eq raw.path (codes "/v1/payment_intents")
     then amount_at (between (codes "amount=") (codes "&currency=usd") raw.body)
     else None
 
@@ -48,7 +53,7 @@ segment_in (Some name) = if nat_lt 0 (length name) && not (list_any (λ b. b == 
 -- the name that a retrieve asks for: `GET /v1/payment_intents/NAME` with an empty body
 unfoldable pub name_of : Raw → Option (List ℕ)
 name_of raw =
-    if is_none raw.query && bytes_eq raw.method (codes "GET") && length raw.body == 0
+    if is_key raw.auth && is_none raw.query && bytes_eq raw.method (codes "GET") && length raw.body == 0
     then segment_in (between (codes "/v1/payment_intents/") [] raw.path)
     else None
 

@@ -1,7 +1,7 @@
 //! Which requests are calls.
 ghost use Rattle.std.specs.Prelude.{◌≡◌, ◌==◌, option_map};
 ghost use Rattle.std.specs.List.{list_any};
-ghost use Rattle.ph_host.specs.Calls.{amount_of, name_of, amount_in, between, segment_in};
+ghost use Rattle.ph_host.specs.Calls.{amount_in, amount_of, between, is_key, name_of, segment_in};
 
 use ph_base::read_number;
 use ph_http::Raw;
@@ -11,7 +11,8 @@ use ph_http::Raw;
 pub fn create_amount(raw: &Raw) -> Option<u64>
     ensures { result ≡ amount_of raw.now }
 {
-    if raw.query.is_none()
+    if presents_key(raw)
+        && raw.query.is_none()
         && raw.method.as_slice() == b"POST".as_slice()
         && raw.path.as_slice() == b"/v1/payment_intents".as_slice()
     {
@@ -27,13 +28,24 @@ pub fn create_amount(raw: &Raw) -> Option<u64>
 pub fn retrieve_name(raw: &Raw) -> Option<&[u8]>
     ensures { option_map (λ name. name.now) result ≡ name_of raw.now }
 {
-    if raw.query.is_none()
+    if presents_key(raw)
+        && raw.query.is_none()
         && raw.method.as_slice() == b"GET".as_slice()
         && raw.body.as_slice().is_empty()
     {
         segment(middle(raw.path.as_slice(), b"/v1/payment_intents/", b""))
     } else {
         None
+    }
+}
+
+// The request presents the API key.
+fn presents_key(raw: &Raw) -> bool
+    ensures { result ≡ is_key raw.now.auth }
+{
+    match &raw.auth {
+        Some(text) => text.as_slice() == b"sk_test_payhost".as_slice(),
+        None => false,
     }
 }
 

@@ -1,6 +1,6 @@
 use Rattle.std.proofs.Common.{inl}
 use Rattle.ph_host.specs.Calls.{amount_of, name_of}
-use Rattle.ph_host.proofs.ItemFacts.{close_status}
+use Rattle.ph_http.proofs.StatusLemmas.{close_status}
 use Rattle.ph_host.proofs.SessionLemmas.{begins, refuses_close, refuses_other, serves_on, stops_asked, stops_close, stops_cut, stops_end, stops_limit, stops_no_memory, stops_read_fault, stops_write_fault}
 use Rattle.ph_host.proofs.ServedLemmas.{other-reply}
 use Rattle.ph_host.proofs.session.serve.Goals as goal
