@@ -1,0 +1,4 @@
+pub mod FreeLemmas
+pub mod IndexLemmas
+pub mod MapLemmas
+pub mod OrderLemmas

@@ -1,0 +1,18 @@
+use Rattle.std.proofs.Common.{◌≡◌, ◌∙◌, ap, map}
+use Rattle.ph_form.specs.Entries.{leaf_of}
+use Rattle.ph_form.specs.Index.{has_map}
+use Rattle.ph_form.specs.Names.{is_below}
+use Rattle.ph_form.specs.Order.{put}
+use Rattle.ph_form.proofs.MapLemmas.{leaves_put, IsIndex-put}
+use Rattle.ph_form.proofs.reading.Reading.put.Goals as goal
+
+pub returns-clause-leaves : goal.returns-clause-leaves
+returns-clause-leaves c =
+    leaves_put c.note_above.new.self.leaves c.insert.new.self c.into_vec.result c.in_ok-text.text c.args.name c.args.text.now
+    c.in_ok-insert.ensures.entries c.into_vec.ensures c.in_ok-text.ensures.items
+    ∙ ap (λ m. put (record { name = c.args.name; text = c.args.text.now }) (map leaf_of m.entries)) c.in_ok-note_above.ensures.leaves
+
+pub returns-clause-index : goal.returns-clause-index
+returns-clause-index c =
+    IsIndex-put c.args.self.now _ (record { name = c.args.name; text = c.args.text.now }) c.requires (returns-clause-leaves c)
+    (rw c.as_slice.ensures at c.in_ok-note_above.ensures.maps) c.in_ok-note_above.ensures.next

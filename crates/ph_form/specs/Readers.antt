@@ -1,0 +1,49 @@
+-- What stands in a form.
+use Rattle.std.specs.Prelude.{◌≡◌, ℕ, ◌==◌, ◌&&◌, ◌+◌, not, Bool, true, if◌then◌else◌, List, [], length, map, filter, find, drop, take_while, bytes_eq, Option, Some, None, option_map}
+use Rattle.std.specs.Str.{is_utf8}
+use Rattle.std.specs.List.{list_any, list_all}
+use Rattle.ph_form.specs.declared.leaf.Leaf.{Leaf}
+use Rattle.ph_form.specs.declared.node.Node.{Node}
+use Rattle.ph_form.specs.declared.node.Node.TheVariants.{Absent, Text, Map}
+use Rattle.ph_form.specs.Names.{child, is_below}
+use Rattle.ph_form.specs.Order.{IsInOrder, put_all}
+
+-- the text under a name
+abbrev pub text_at : List ℕ → List Leaf → Option (List ℕ)
+text_at name leaves = option_map (λ leaf. leaf.text) (find (λ leaf. bytes_eq leaf.name name) leaves)
+
+-- the leaves below a name
+abbrev pub below : List ℕ → List Leaf → List Leaf
+below name leaves = filter (λ leaf. is_below name leaf.name) leaves
+
+-- what stands at a name: its text, a map of what lies below it, or nothing
+abbrev pub node_at : List ℕ → List Leaf → Node
+node_at name leaves =
+    if list_any (λ leaf. bytes_eq leaf.name name) leaves then Text
+    else (if list_any (λ leaf. is_below name leaf.name) leaves then Map else Absent)
+
+-- the key that follows a name in a longer one
+abbrev pub key_after : List ℕ → List ℕ → List ℕ
+key_after upper name = take_while (λ b. not (b == 93)) (drop (length upper + 1) name)
+
+-- the longer name has one key more, and ends with it
+abbrev pub is_child : List ℕ → List ℕ → Bool
+is_child upper name = bytes_eq name (child upper (key_after upper name))
+
+-- a leaf, named by the key that follows a name
+abbrev pub entry_of : List ℕ → Leaf → Leaf
+entry_of upper leaf = record { name = key_after upper leaf.name; text = leaf.text }
+
+-- the entries of the map at a name, in byte order of their keys; none where one is a map itself
+abbrev pub entries_at : List ℕ → List Leaf → Option (List Leaf)
+entries_at name leaves =
+    if list_all (λ leaf. is_child name leaf.name) (below name leaves) then Some (put_all [] (map (entry_of name) (below name leaves))) else None
+
+-- the name and the text are UTF-8
+abbrev pub is_leaf_utf8 : Leaf → Bool
+is_leaf_utf8 leaf = is_utf8 leaf.name && is_utf8 leaf.text
+
+-- the leaves stand in order, and all of it is UTF-8
+pub record IsWhole (leaves : List Leaf) : Type 0 where
+  pub order : IsInOrder leaves
+  pub utf8 : list_all is_leaf_utf8 leaves ≡ true

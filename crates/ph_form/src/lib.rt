@@ -1,0 +1,19 @@
+//! Form bodies and queries as trees of texts: `metadata[order]=7` is the text `7` at the key `order` of the map `metadata`.
+#![tactic(auto)]
+
+mod fault;
+mod form;
+mod leaf;
+mod names;
+mod node;
+mod ordered;
+mod pairs;
+mod read;
+mod reading;
+
+pub use fault::FormFault;
+pub use form::Form;
+pub use leaf::Leaf;
+pub use names::{is_below, is_within};
+pub use node::Node;
+pub use read::read_form;
