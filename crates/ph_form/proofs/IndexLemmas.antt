@@ -87,6 +87,12 @@ any_and b p (leaf ∷ leaves) = rw (any_and b p leaves) (at (p leaf) b (list_any
     at true false false = refl
     at false b r = refl
 
+and_same : (a b : Bool) → (a && b) ≡ (b && a)
+and_same true true = refl
+and_same true false = refl
+and_same false true = refl
+and_same false false = refl
+
 any_more : (name : List ℕ) (b : ℕ) (leaves : List Leaf)
     → list_any (λ leaf. is_below leaf.name (name ++ b ∷ [])) leaves
     ≡ list_any (λ leaf. is_below leaf.name name || (bytes_eq leaf.name name && (b == 91))) leaves
@@ -97,12 +103,15 @@ any_more name b (leaf ∷ leaves) = rw (below_more leaf.name name b, any_more na
 pub any_below_more : (name : List ℕ) (i : ℕ) (leaves : List Leaf) → i < length name
     → list_any (λ leaf. is_below leaf.name (take (i + 1) name)) leaves
     ≡ (list_any (λ leaf. is_below leaf.name (take i name)) leaves
-    || (list_any (λ leaf. bytes_eq (take i name) leaf.name) leaves && (slice_index name i == 91)))
+    || ((slice_index name i == 91) && list_any (λ leaf. bytes_eq (take i name) leaf.name) leaves))
 any_below_more name i leaves h =
     rw (take_more name i 0 h) (
     any_more (take i name) (slice_index name i) leaves
     ∙ any_or (λ (leaf : Leaf). is_below leaf.name (take i name)) (λ leaf. bytes_eq leaf.name (take i name) && (slice_index name i == 91)) leaves
-    ∙ rw (any_and (slice_index name i == 91) (λ leaf. bytes_eq leaf.name (take i name)) leaves, any_same (take i name) leaves) refl)
+    ∙ ap (λ z. list_any (λ (leaf : Leaf). is_below leaf.name (take i name)) leaves || z) (
+    any_and (slice_index name i == 91) (λ leaf. bytes_eq leaf.name (take i name)) leaves
+    ∙ ap (λ z. z && (slice_index name i == 91)) (any_same (take i name) leaves)
+    ∙ and_same (list_any (λ (leaf : Leaf). bytes_eq (take i name) leaf.name) leaves) (slice_index name i == 91)))
 
 -- a name that has ended lies below nothing that goes on
 pub below_short : (upper name : List ℕ) (i : ℕ) → length name ≤ i → i < length upper → is_below (drop i upper) (drop i name) ≡ false

@@ -5,7 +5,7 @@ use Rattle.std.specs.declared.cmp.Ordering.{Ordering}
 use Rattle.std.specs.declared.cmp.Ordering.TheVariants.{Less, Equal, Greater}
 use Rattle.std.specs.Ordering.{match_ordering, is_eq, nat_cmp}
 use Rattle.std.specs.Cmp.Lexicographic.{slice_cmp, bytes_decides, nat_list_cmp_total}
-use Rattle.std.specs.List.{list_any}
+use Rattle.std.specs.List.{list_all, list_any}
 use Rattle.std.specs.Map.{lookup}
 use Rattle.std.specs.BTreeMap.{BTreeMap, insert_entry}
 use Rattle.std.proofs.lemmas.Map.Text.{is_eq-slice_cmp}
@@ -16,7 +16,7 @@ use Rattle.ph_form.specs.Entries.{leaf_of}
 use Rattle.ph_form.specs.Index.{at_name, leaves_in, has_map, next_of, AreTaken, IsSet, IsIndex}
 use Rattle.ph_form.specs.Leaves.{is_free}
 use Rattle.ph_form.specs.Names.{is_below, is_within, child}
-use Rattle.ph_form.specs.Order.{put}
+use Rattle.ph_form.specs.Order.{is_leaf_utf8, put}
 
 -- the order of keys
 abbrev pub key_cmp : Vec ℕ Global → Vec ℕ Global → Ordering
@@ -122,6 +122,30 @@ any_put p leaf (other ∷ leaves) = at (slice_cmp nat_cmp leaf.name other.name) 
         (same_text leaf.name other.name h) (or_twice (p leaf.name) (list_any (λ (l : Leaf). p l.name) leaves))
     at Greater h rest = ap (λ b. p other.name || b) rest ∙ or_past (p other.name) (p leaf.name) (list_any (λ (l : Leaf). p l.name) leaves)
 
+all_here : (s t : Bool) → s ≡ true → t ≡ true → (s && t) ≡ true
+all_here true t s h = h
+all_here false t s h = s
+
+pub first_of_all : (s t : Bool) → (s && t) ≡ true → s ≡ true
+first_of_all true t h = refl
+first_of_all false t h = h
+
+pub rest_of_all : (s t : Bool) → (s && t) ≡ true → t ≡ true
+rest_of_all true t h = h
+rest_of_all false t h = absurd (let wrong : false ≡ true = h in cc)
+
+-- what holds of each leaf holds after one is put of which it holds
+pub all_put : (p : Leaf → Bool) (leaf : Leaf) (leaves : List Leaf) → p leaf ≡ true → list_all p leaves ≡ true → list_all p (put leaf leaves) ≡ true
+all_put p leaf [] s h = all_here (p leaf) true s refl
+all_put p leaf (other ∷ leaves) s h =
+    at (slice_cmp nat_cmp leaf.name other.name) (all_put p leaf leaves s (rest_of_all (p other) (list_all p leaves) h))
+  where
+  at : (o : Ordering) → list_all p (put leaf leaves) ≡ true
+      → list_all p (match_ordering o (leaf ∷ other ∷ leaves) (leaf ∷ leaves) (other ∷ put leaf leaves)) ≡ true
+  at Less rest = all_here (p leaf) (list_all p (other ∷ leaves)) s h
+  at Equal rest = all_here (p leaf) (list_all p leaves) s (rest_of_all (p other) (list_all p leaves) h)
+  at Greater rest = all_here (p other) (list_all p (put leaf leaves)) (first_of_all (p other) (list_all p leaves) h) rest
+
 -- a leaf that is put takes none away
 pub length_put : (leaf : Leaf) (leaves : List Leaf) → length leaves ≤ length (put leaf leaves)
 length_put leaf [] = omega arith
@@ -129,6 +153,17 @@ length_put leaf (other ∷ leaves) = at (slice_cmp nat_cmp leaf.name other.name)
   where
     at : (o : Ordering) → length leaves ≤ length (put leaf leaves)
         → suc (length leaves) ≤ length (match_ordering o (leaf ∷ other ∷ leaves) (leaf ∷ leaves) (other ∷ put leaf leaves))
+    at Less h = omega arith
+    at Equal h = omega arith
+    at Greater h = omega arith
+
+-- a leaf that is put is at most one more
+pub length_put_most : (leaf : Leaf) (leaves : List Leaf) → length (put leaf leaves) ≤ length leaves + 1
+length_put_most leaf [] = omega arith
+length_put_most leaf (other ∷ leaves) = at (slice_cmp nat_cmp leaf.name other.name) (length_put_most leaf leaves)
+  where
+    at : (o : Ordering) → length (put leaf leaves) ≤ length leaves + 1
+        → length (match_ordering o (leaf ∷ other ∷ leaves) (leaf ∷ leaves) (other ∷ put leaf leaves)) ≤ suc (length leaves) + 1
     at Less h = omega arith
     at Equal h = omega arith
     at Greater h = omega arith
@@ -143,14 +178,15 @@ AreTaken-put leaf leaves beginning n taken m h =
     rw (any_put (is_within (child beginning (decimal m))) leaf leaves) (stays_taken (is_within (child beginning (decimal m)) leaf.name) _ (taken m h))
 
 -- a reading to which a leaf was added is an index
-pub IsIndex-put : (old new : Reading) (leaf : Leaf) → IsIndex old → leaves_in new ≡ put leaf (leaves_in old)
+pub IsIndex-put : (old new : Reading) (leaf : Leaf) → IsIndex old → is_leaf_utf8 leaf ≡ true → leaves_in new ≡ put leaf (leaves_in old)
     → ((q : List ℕ) → has_map new q ≡ (has_map old q || is_below q leaf.name))
     → ((q : List ℕ) → next_of new q ≡ next_of old q)
     → IsIndex new
-IsIndex-put old new leaf index leaves maps next = record {
+IsIndex-put old new leaf index utf8 leaves maps next = record {
   maps = λ q. maps q ∙ rw (leaves, any_put (is_below q) leaf (leaves_in old), index.maps q) (or_same (list_any (λ (l : Leaf). is_below q l.name) (leaves_in old)) (is_below q leaf.name));
   taken = λ q. rw (leaves, next q) (AreTaken-put leaf (leaves_in old) q (next_of old q) (index.taken q));
   small = λ q. rw (leaves, next q) (omega (arith, index.small q, length_put leaf (leaves_in old)));
+  utf8 = rw leaves (all_put is_leaf_utf8 leaf (leaves_in old) utf8 index.utf8);
 }
 
 is_some_set : (s : Bool) (n : ℕ) (o : Option ℕ) (b : Bool) → (s ≡ true → is_some o ≡ true) → is_some (cond s (Some n) o) ≡ is_some o
@@ -179,6 +215,7 @@ IsIndex-set old new name n index leaves set has taken small = record {
       (λ e. subst (λ t. AreTaken (leaves_in old) t n) (sym ((bytes_decides q name).0 e)) taken) (index.taken q)));
   small = λ q. subst (λ k. k ≤ length (leaves_in new)) (sym (next q)) (subst (λ ls. cond (bytes_eq q name) n (next_of old q) ≤ length ls) (sym same)
       (on_cond (λ k. k ≤ length (leaves_in old)) (bytes_eq q name) n (next_of old q) (λ e. small) (index.small q)));
+  utf8 = subst (λ ls. list_all is_leaf_utf8 ls ≡ true) (sym same) index.utf8;
 }
   where
     same : leaves_in new ≡ leaves_in old

@@ -19,13 +19,17 @@ keys_from keys true key (b ∷ text) =
 abbrev pub base_of : List ℕ → List ℕ
 base_of name = take (position_or_len is_bracket name) name
 
+-- what follows the base of a name
+abbrev pub tail_of : List ℕ → List ℕ
+tail_of name = drop (position_or_len is_bracket name) name
+
 -- the keys of a name, each without brackets; none where what follows the base isn't a row of keys in brackets
 abbrev pub keys_of : List ℕ → Option (List (List ℕ))
-keys_of name = keys_from [] false [] (drop (position_or_len is_bracket name) name)
+keys_of name = keys_from [] false [] (tail_of name)
 
 -- the name of a key below a beginning, as `beginning[key]`
 abbrev pub child : List ℕ → List ℕ → List ℕ
-child beginning key = beginning ++ 91 ∷ [] ++ key ++ 93 ∷ []
+child beginning key = beginning ++ (91 ∷ (key ++ (93 ∷ [])))
 
 -- the name lies below this one: it is this one and goes on with `[`
 abbrev pub is_below : List ℕ → List ℕ → Bool

@@ -1,6 +1,7 @@
 //! Form bodies and queries as trees of texts: `metadata[order]=7` is the text `7` at the key `order` of the map `metadata`.
 #![tactic(auto)]
 
+mod entries;
 mod fault;
 mod form;
 mod leaf;
@@ -17,3 +18,6 @@ pub use leaf::Leaf;
 pub use names::{is_below, is_within};
 pub use node::Node;
 pub use read::read_form;
+
+#[cfg(test)]
+mod tests;

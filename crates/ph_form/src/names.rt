@@ -1,7 +1,7 @@
 //! The names of a form: a base, and keys in brackets.
 ghost use Rattle.std.specs.Prelude.{◌≡◌, ◌≤◌, false, [], length, option_map, IfOk};
 ghost use Rattle.std.specs.List.{position_or_len};
-ghost use Rattle.ph_form.specs.Names.{child, is_below, is_bracket, is_within, keys_from};
+ghost use Rattle.ph_form.specs.Names.{base_of, child, is_below, is_bracket, is_within, keys_from, keys_of, tail_of};
 
 use ph_base::{Bytes, NoMemory};
 use std::alloc::Global;
@@ -13,7 +13,7 @@ fn is_bracket(b: u8) -> bool
 }
 
 /// Where a name's base ends: at its first bracket, or at its end.
-pub fn base_len(name: &[u8]) -> usize
+fn base_len(name: &[u8]) -> usize
     ensures value { result ≡ position_or_len is_bracket name.now }
     ensures within { result ≤ length name.now }
 {
@@ -26,7 +26,7 @@ pub fn base_len(name: &[u8]) -> usize
 }
 
 /// The keys of a text as `[key][key]`, or `None` where it has another form.
-pub fn keys(alloc: Global, text: &[u8]) -> Result<Option<Vec<Bytes>>, NoMemory>
+fn keys_in(alloc: Global, text: &[u8]) -> Result<Option<Vec<Bytes>>, NoMemory>
     ensures { IfOk result (λ o. option_map (λ v. v.items) o ≡ keys_from [] false [] text.now) }
 {
     let mut keys = Vec::new(alloc);
@@ -52,6 +52,27 @@ pub fn keys(alloc: Global, text: &[u8]) -> Result<Option<Vec<Bytes>>, NoMemory>
         }
     }
     if inside { Ok(None) } else { Ok(Some(keys)) }
+}
+
+/// The base of a name: what stands before its first bracket.
+pub fn base(name: &[u8]) -> &[u8]
+    ensures { result.now ≡ base_of name.now }
+{
+    &name[..base_len(name)]
+}
+
+/// What follows the base of a name.
+pub fn tail(name: &[u8]) -> &[u8]
+    ensures { result.now ≡ tail_of name.now }
+{
+    &name[base_len(name)..]
+}
+
+/// The keys of a name, or `None` where something else than keys in brackets follows its base.
+pub fn keys(alloc: Global, name: &[u8]) -> Result<Option<Vec<Bytes>>, NoMemory>
+    ensures { IfOk result (λ o. option_map (λ v. v.items) o ≡ keys_of name.now) }
+{
+    keys_in(alloc, tail(name))
 }
 
 /// The name of a key below a beginning, as `beginning[key]`.

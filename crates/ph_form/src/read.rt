@@ -18,7 +18,7 @@ pub fn read_form(alloc: Global, query: &[u8], body: &[u8]) -> Result<Form, FormF
     let mut reading = Reading::new(alloc);
     for i in 0..pairs.len() {
         let pair = &pairs[i];
-        reading.add(alloc, i as u64, pair.0.as_bytes(), pair.1.as_bytes())?;
+        reading.add(alloc, i as u64, &pair.0, &pair.1)?;
     }
     Ok(reading.form(alloc)?)
 }

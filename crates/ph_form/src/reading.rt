@@ -1,5 +1,5 @@
 //! A form while it is read.
-ghost use Rattle.std.specs.Prelude.{◌≡◌, ◌≢◌, [], ◌<◌, ◌≤◌, ◌&&◌, ◌||◌, ◌==◌, ℕ, List, Ok, Err, bytes_eq, not, length, take, slice_index, OnOk, IfOk, IfErr};
+ghost use Rattle.std.specs.Prelude.{◌≡◌, ◌≢◌, [], ◌<◌, ◌≤◌, ◌+◌, ◌&&◌, ◌||◌, ◌==◌, ℕ, List, Ok, Err, bytes_eq, not, length, take, slice_index, OnOk, IfOk, IfErr, IsUtf8};
 ghost use Rattle.std.specs.List.{list_any};
 ghost use Rattle.ph_form.specs.Index.{AreTaken, has_map, IsIndex, IsSet, leaves_in, next_of};
 ghost use Rattle.ph_form.specs.Leaves.{added, clashes, filled, is_free, key_or_free, least_free};
@@ -8,7 +8,7 @@ ghost use Rattle.ph_form.specs.Order.{put};
 
 use crate::fault::FormFault;
 use crate::form::Form;
-use crate::names::{base_len, child, keys};
+use crate::names::{base, child, keys};
 use crate::ordered::ordered;
 use ph_base::{Bytes, NoMemory};
 use std::alloc::Global;
@@ -65,12 +65,12 @@ impl Reading {
         }
     }
 
-    /// Whether a leaf's name ends at this place of a longer one, in front of a `[`.
+    /// Whether a `[` stands at this place of a name, and a leaf has the name in front of it.
     fn ends_at(&self, name: &[u8], i: usize) -> bool
         requires { i < length name.now }
-        ensures { result ≡ (list_any (λ leaf. bytes_eq (take i name.now) leaf.name) (leaves_in self.now) && (slice_index name.now i == 91)) }
+        ensures { result ≡ ((slice_index name.now i == 91) && list_any (λ leaf. bytes_eq (take i name.now) leaf.name) (leaves_in self.now)) }
     {
-        self.has_text(&name[..i]) && name[i] == b'['
+        name[i] == b'[' && self.has_text(&name[..i])
     }
 
     /// Whether a leaf stands above this name.
@@ -215,9 +215,12 @@ impl Reading {
 
     /// Puts a text under a name that is whole.
     fn put(&mut self, alloc: Global, name: Bytes, text: &[u8]) -> Result<(), NoMemory>
-        requires { IsIndex self.old }
+        requires index { IsIndex self.old }
+        requires name { IsUtf8 name }
+        requires text { IsUtf8 text.now }
         ensures leaves { OnOk result (leaves_in self.new ≡ put (record { name = name; text = text.now }) (leaves_in self.old)) }
         ensures index { OnOk result (IsIndex self.new) }
+        ensures count { OnOk result (length (leaves_in self.new) ≤ length (leaves_in self.old) + 1) }
     {
         self.note_above(alloc, name.as_slice())?;
         let text = Vec::from_slice(alloc, text)?;
@@ -225,29 +228,30 @@ impl Reading {
         Ok(())
     }
 
-    /// Adds the pair at a place.
-    pub fn add(&mut self, alloc: Global, at: u64, name: &[u8], text: &[u8]) -> Result<(), FormFault>
-        requires { IsIndex self.old }
+    /// Adds the pair at a place, which is the number of pairs before it.
+    pub fn add(&mut self, alloc: Global, at: u64, name: &str, text: &str) -> Result<(), FormFault>
+        requires index { IsIndex self.old }
+        requires count { length (leaves_in self.old) ≤ at }
         ensures added { OnOk result (added at (leaves_in self.old) (name.now, text.now) ≡ Ok (leaves_in self.new)) }
         ensures index { OnOk result (IsIndex self.new) }
+        ensures count { OnOk result (length (leaves_in self.new) ≤ at + 1) }
         ensures fault { IfErr result (λ fault. fault ≢ FormFault.NoMemory → added at (leaves_in self.old) (name.now, text.now) ≡ Err fault) }
     {
-        let end = base_len(name);
-        let Some(keys) = keys(alloc, &name[end..])? else {
+        let Some(keys) = keys(alloc, name.as_bytes())? else {
             return Err(FormFault::BadName { at });
         };
-        let base = &name[..end];
+        let base = base(name.as_bytes());
         if base.is_empty() {
             return Err(FormFault::BadName { at });
         }
         if 4 < keys.len() {
             return Err(FormFault::TooDeep { at });
         }
-        let name = self.filled(alloc, base, &keys)?;
-        if self.clashes(name.as_slice()) {
+        let whole = self.filled(alloc, base, &keys)?;
+        if self.clashes(whole.as_slice()) {
             return Err(FormFault::Clash { at });
         }
-        self.put(alloc, name, text)?;
+        self.put(alloc, whole, text.as_bytes())?;
         Ok(())
     }
 }

@@ -1,9 +1,10 @@
 use Rattle.std.proofs.Common.{◌≡◌, ◌∙◌, ap, map}
 use Rattle.ph_form.specs.Entries.{leaf_of}
-use Rattle.ph_form.specs.Index.{has_map}
+use Rattle.ph_form.specs.Index.{has_map, leaves_in}
 use Rattle.ph_form.specs.Names.{is_below}
 use Rattle.ph_form.specs.Order.{put}
-use Rattle.ph_form.proofs.MapLemmas.{leaves_put, IsIndex-put}
+use Rattle.ph_form.proofs.MapLemmas.{leaves_put, length_put_most, IsIndex-put}
+use Rattle.ph_form.proofs.Utf8Lemmas.{both_utf8}
 use Rattle.ph_form.proofs.reading.Reading.put.Goals as goal
 
 pub returns-clause-leaves : goal.returns-clause-leaves
@@ -14,5 +15,10 @@ returns-clause-leaves c =
 
 pub returns-clause-index : goal.returns-clause-index
 returns-clause-index c =
-    IsIndex-put c.args.self.now _ (record { name = c.args.name; text = c.args.text.now }) c.requires (returns-clause-leaves c)
+    IsIndex-put c.args.self.now _ (record { name = c.args.name; text = c.args.text.now }) c.requires.index (both_utf8 c.args.name c.args.text.now c.requires.name c.requires.text) (returns-clause-leaves c)
     (rw c.as_slice.ensures at c.in_ok-note_above.ensures.maps) c.in_ok-note_above.ensures.next
+
+pub returns-clause-count : goal.returns-clause-count
+returns-clause-count c =
+    let e = returns-clause-leaves c in
+    rw e (length_put_most (record { name = c.args.name; text = c.args.text.now }) (leaves_in c.args.self.now))

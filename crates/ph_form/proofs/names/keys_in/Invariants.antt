@@ -1,6 +1,6 @@
 use Rattle.std.proofs.Common.{◌≡◌, false, [], drop}
 use Rattle.ph_form.specs.Names.{keys_from}
-use Rattle.ph_form.proofs.names.keys.Given as goal
+use Rattle.ph_form.proofs.names.keys_in.Given as goal
 
 abbrev pub invariant-loop-b : goal.invariant-loop-b
 invariant-loop-b l =
