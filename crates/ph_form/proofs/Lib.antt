@@ -2,5 +2,6 @@ pub mod EntryLemmas
 pub mod FreeLemmas
 pub mod IndexLemmas
 pub mod MapLemmas
+pub mod OrderLaw
 pub mod OrderLemmas
 pub mod Utf8Lemmas

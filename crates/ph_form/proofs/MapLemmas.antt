@@ -140,11 +140,11 @@ all_put p leaf [] s h = all_here (p leaf) true s refl
 all_put p leaf (other ∷ leaves) s h =
     at (slice_cmp nat_cmp leaf.name other.name) (all_put p leaf leaves s (rest_of_all (p other) (list_all p leaves) h))
   where
-  at : (o : Ordering) → list_all p (put leaf leaves) ≡ true
-      → list_all p (match_ordering o (leaf ∷ other ∷ leaves) (leaf ∷ leaves) (other ∷ put leaf leaves)) ≡ true
-  at Less rest = all_here (p leaf) (list_all p (other ∷ leaves)) s h
-  at Equal rest = all_here (p leaf) (list_all p leaves) s (rest_of_all (p other) (list_all p leaves) h)
-  at Greater rest = all_here (p other) (list_all p (put leaf leaves)) (first_of_all (p other) (list_all p leaves) h) rest
+    at : (o : Ordering) → list_all p (put leaf leaves) ≡ true
+        → list_all p (match_ordering o (leaf ∷ other ∷ leaves) (leaf ∷ leaves) (other ∷ put leaf leaves)) ≡ true
+    at Less rest = all_here (p leaf) (list_all p (other ∷ leaves)) s h
+    at Equal rest = all_here (p leaf) (list_all p leaves) s (rest_of_all (p other) (list_all p leaves) h)
+    at Greater rest = all_here (p other) (list_all p (put leaf leaves)) (first_of_all (p other) (list_all p leaves) h) rest
 
 -- a leaf that is put takes none away
 pub length_put : (leaf : Leaf) (leaves : List Leaf) → length leaves ≤ length (put leaf leaves)

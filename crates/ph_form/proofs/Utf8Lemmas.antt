@@ -32,17 +32,17 @@ below_or_not m n = grind (arith, nat_tests)
 pub base_utf8 : (name : List ℕ) → IsUtf8 name → IsUtf8 (base_of name)
 base_utf8 name u = at (below_or_not (position_or_len is_bracket name) (length name))
   where
-  at : (position_or_len is_bracket name < length name) ⊎ (length name ≤ position_or_len is_bracket name) → IsUtf8 (base_of name)
-  at (inl h) = IsUtf8-take name _ u (IsCharBoundary-before_ascii name _ h (bracket_small _ (passes_at_first is_bracket name 0 h)))
-  at (inr h) = subst IsUtf8 (sym (take_all (position_or_len is_bracket name) name h)) u
+    at : (position_or_len is_bracket name < length name) ⊎ (length name ≤ position_or_len is_bracket name) → IsUtf8 (base_of name)
+    at (inl h) = IsUtf8-take name _ u (IsCharBoundary-before_ascii name _ h (bracket_small _ (passes_at_first is_bracket name 0 h)))
+    at (inr h) = subst IsUtf8 (sym (take_all (position_or_len is_bracket name) name h)) u
 
 -- what follows the base
 rest_utf8 : (name : List ℕ) → IsUtf8 name → IsUtf8 (tail_of name)
 rest_utf8 name u = at (below_or_not (position_or_len is_bracket name) (length name))
   where
-  at : (position_or_len is_bracket name < length name) ⊎ (length name ≤ position_or_len is_bracket name) → IsUtf8 (drop (position_or_len is_bracket name) name)
-  at (inl h) = IsUtf8-drop name _ u (IsCharBoundary-before_ascii name _ h (bracket_small _ (passes_at_first is_bracket name 0 h)))
-  at (inr h) = subst IsUtf8 (sym (drop_all (position_or_len is_bracket name) name h)) IsUtf8-nil
+    at : (position_or_len is_bracket name < length name) ⊎ (length name ≤ position_or_len is_bracket name) → IsUtf8 (drop (position_or_len is_bracket name) name)
+    at (inl h) = IsUtf8-drop name _ u (IsCharBoundary-before_ascii name _ h (bracket_small _ (passes_at_first is_bracket name 0 h)))
+    at (inr h) = subst IsUtf8 (sym (drop_all (position_or_len is_bracket name) name h)) IsUtf8-nil
 
 -- the text left, with the part of a key in front of it where it stands within brackets
 abbrev Left : Bool → List ℕ → List ℕ → Type 0
@@ -88,23 +88,23 @@ keys_utf8 keys true key [] found e h u = absurd (cc)
 keys_utf8 keys false key (b ∷ text) found e h u =
     at (b == 91) refl e (λ v e. keys_utf8 keys true [] text found e h v)
   where
-  at : (t : Bool) → (b == 91) ≡ t → cond t (keys_from keys true [] text) None ≡ Some found
-      → (IsUtf8 text → keys_from keys true [] text ≡ Some found → list_all is_utf8 found ≡ true) → list_all is_utf8 found ≡ true
-  at true s e more = more (after_byte b text (is_byte b 91 s (omega arith)) u) e
-  at false s e more = absurd (cc)
+    at : (t : Bool) → (b == 91) ≡ t → cond t (keys_from keys true [] text) None ≡ Some found
+        → (IsUtf8 text → keys_from keys true [] text ≡ Some found → list_all is_utf8 found ≡ true) → list_all is_utf8 found ≡ true
+    at true s e more = more (after_byte b text (is_byte b 91 s (omega arith)) u) e
+    at false s e more = absurd (cc)
 keys_utf8 keys true key (b ∷ text) found e h u =
     at (b == 93) (b == 91) refl e
-        (λ k v e. keys_utf8 (keys ++ key ∷ []) false [] text found e k v)
-        (λ v e. keys_utf8 keys true (key ++ b ∷ []) text found e h v)
+    (λ k v e. keys_utf8 (keys ++ key ∷ []) false [] text found e k v)
+    (λ v e. keys_utf8 keys true (key ++ b ∷ []) text found e h v)
   where
-  at : (s t : Bool) → (b == 93) ≡ s
-      → cond s (keys_from (keys ++ key ∷ []) false [] text) (cond t None (keys_from keys true (key ++ b ∷ []) text)) ≡ Some found
-      → (list_all is_utf8 (keys ++ key ∷ []) ≡ true → IsUtf8 text → keys_from (keys ++ key ∷ []) false [] text ≡ Some found → list_all is_utf8 found ≡ true)
-      → (IsUtf8 ((key ++ b ∷ []) ++ text) → keys_from keys true (key ++ b ∷ []) text ≡ Some found → list_all is_utf8 found ≡ true)
-      → list_all is_utf8 found ≡ true
-  at true t s e ends more = ends (one_more keys key h (key_before key b text (is_byte b 93 s (omega arith)) u)) (text_after key b text (is_byte b 93 s (omega arith)) u) e
-  at false true s e ends more = absurd (cc)
-  at false false s e ends more = more (rw append_assoc u) e
+    at : (s t : Bool) → (b == 93) ≡ s
+        → cond s (keys_from (keys ++ key ∷ []) false [] text) (cond t None (keys_from keys true (key ++ b ∷ []) text)) ≡ Some found
+        → (list_all is_utf8 (keys ++ key ∷ []) ≡ true → IsUtf8 text → keys_from (keys ++ key ∷ []) false [] text ≡ Some found → list_all is_utf8 found ≡ true)
+        → (IsUtf8 ((key ++ b ∷ []) ++ text) → keys_from keys true (key ++ b ∷ []) text ≡ Some found → list_all is_utf8 found ≡ true)
+        → list_all is_utf8 found ≡ true
+    at true t s e ends more = ends (one_more keys key h (key_before key b text (is_byte b 93 s (omega arith)) u)) (text_after key b text (is_byte b 93 s (omega arith)) u) e
+    at false true s e ends more = absurd (cc)
+    at false false s e ends more = more (rw append_assoc u) e
 
 -- the keys of a name
 pub name_keys_utf8 : (name : List ℕ) (keys : List (List ℕ)) → IsUtf8 name → keys_of name ≡ Some keys → list_all is_utf8 keys ≡ true
@@ -131,15 +131,15 @@ close_utf8 = (93 ∷ [], (refl, refl))
 child_utf8 : (beginning key : List ℕ) → IsUtf8 beginning → IsUtf8 key → IsUtf8 (child beginning key)
 child_utf8 beginning key b k =
     IsUtf8-append beginning (91 ∷ (key ++ (93 ∷ []))) b
-        (IsUtf8-append (91 ∷ []) (key ++ 93 ∷ []) open_utf8 (IsUtf8-append key (93 ∷ []) k close_utf8))
+    (IsUtf8-append (91 ∷ []) (key ++ 93 ∷ []) open_utf8 (IsUtf8-append key (93 ∷ []) k close_utf8))
 
 key_utf8 : (leaves : List Leaf) (beginning key : List ℕ) → length leaves < 2 ^ 64 → IsUtf8 key → IsUtf8 (key_or_free leaves beginning key)
 key_utf8 leaves beginning key small u = at (length key == 0)
   where
-  at : (b : Bool) → IsUtf8 (cond b (decimal (least_free leaves beginning)) key)
-  at true = IsUtf8-from_ascii (decimal (least_free leaves beginning))
-      (IsAscii-decimal (least_free leaves beginning) (omega (arith, free_small leaves beginning 0 (length leaves))))
-  at false = u
+    at : (b : Bool) → IsUtf8 (cond b (decimal (least_free leaves beginning)) key)
+    at true = IsUtf8-from_ascii (decimal (least_free leaves beginning))
+        (IsAscii-decimal (least_free leaves beginning) (omega (arith, free_small leaves beginning 0 (length leaves))))
+    at false = u
 
 -- a name that is filled
 pub filled_utf8 : (leaves : List Leaf) (beginning : List ℕ) (keys : List (List ℕ)) → length leaves < 2 ^ 64
@@ -147,8 +147,8 @@ pub filled_utf8 : (leaves : List Leaf) (beginning : List ℕ) (keys : List (List
 filled_utf8 leaves beginning [] small b k = b
 filled_utf8 leaves beginning (key ∷ keys) small b k =
     filled_utf8 leaves (child beginning (key_or_free leaves beginning key)) keys small
-        (child_utf8 beginning _ b (key_utf8 leaves beginning key small (IsUtf8-from_is_utf8 key (first_of_all (is_utf8 key) (list_all is_utf8 keys) k))))
-        (rest_of_all (is_utf8 key) (list_all is_utf8 keys) k)
+    (child_utf8 beginning _ b (key_utf8 leaves beginning key small (IsUtf8-from_is_utf8 key (first_of_all (is_utf8 key) (list_all is_utf8 keys) k))))
+    (rest_of_all (is_utf8 key) (list_all is_utf8 keys) k)
 
 -- the keys that were read
 pub keys_are : (name : List ℕ) (keys : Vec (List ℕ) Global) (found : Option (Vec (List ℕ) Global)) → found ≡ Some keys
@@ -160,17 +160,18 @@ pub below_is : (upper name : List ℕ) → is_below upper name ≡ true → name
 below_is [] [] h = absurd (let wrong : false ≡ true = h in cc)
 below_is [] (b ∷ name) h = ap (λ c. c ∷ name) (is_91 b h)
   where
-  is_91 : (b : ℕ) → (b == 91) ≡ true → b ≡ 91
-  is_91 b h = grind (arith, nat_tests)
+    is_91 : (b : ℕ) → (b == 91) ≡ true → b ≡ 91
+    is_91 b h = grind (arith, nat_tests)
 below_is (c ∷ upper) [] h = absurd (let wrong : false ≡ true = h in cc)
 below_is (c ∷ upper) (b ∷ name) h =
     let e = below_is upper name (rest_of_all (c == b) (is_below upper name) h) in
     rw add-one (joined (same c b (first_of_all (c == b) (is_below upper name) h)) (rw add-one at e))
   where
-  same : (c b : ℕ) → (c == b) ≡ true → b ≡ c
-  same c b h = grind (arith, nat_tests)
-  joined : {xs ys : List ℕ} {x y : ℕ} → x ≡ y → xs ≡ ys → x ∷ xs ≡ y ∷ ys
-  joined e h = cc
+    same : (c b : ℕ) → (c == b) ≡ true → b ≡ c
+    same c b h = grind (arith, nat_tests)
+
+    joined : {xs ys : List ℕ} {x y : ℕ} → x ≡ y → xs ≡ ys → x ∷ xs ≡ y ∷ ys
+    joined e h = cc
 
 -- the entry of a leaf below a name
 pub entry_utf8 : (upper : List ℕ) (leaf : Leaf) → is_below upper leaf.name ≡ true → is_leaf_utf8 leaf ≡ true → is_leaf_utf8 (entry_of upper leaf) ≡ true
@@ -178,4 +179,4 @@ entry_utf8 upper leaf h u =
     let name : IsUtf8 leaf.name = IsUtf8-from_is_utf8 leaf.name (first_of_all (is_utf8 leaf.name) (is_utf8 leaf.text) u) in
     let rest : IsUtf8 (rest_after upper leaf.name) = text_after upper 91 (rest_after upper leaf.name) (omega arith) (subst IsUtf8 (below_is upper leaf.name h) name) in
     both_utf8 (base_of (rest_after upper leaf.name)) leaf.text (base_utf8 (rest_after upper leaf.name) rest)
-        (IsUtf8-from_is_utf8 leaf.text (rest_of_all (is_utf8 leaf.name) (is_utf8 leaf.text) u))
+    (IsUtf8-from_is_utf8 leaf.text (rest_of_all (is_utf8 leaf.name) (is_utf8 leaf.text) u))

@@ -1,5 +1,5 @@
 -- The leaves of a form: a finite map from names to texts, built pair by pair.
-use Rattle.std.specs.Prelude.{ℕ, zero, suc, ◌+◌, ◌==◌, nat_lt, not, ◌||◌, Bool, if◌then◌else◌, List, [], ◌∷◌, length, Option, Some, None, Result, Ok, Err}
+use Rattle.std.specs.Prelude.{ℕ, zero, suc, ◌+◌, ◌==◌, nat_lt, not, ◌||◌, Bool, if◌then◌else◌, List, [], ◌∷◌, length, Option, Some, None, unwrap_or, Result, Ok, Err}
 use Rattle.std.specs.List.{list_any}
 use Rattle.std.specs.Fmt.{decimal}
 use Rattle.ph_form.specs.declared.leaf.Leaf.{Leaf}
@@ -58,3 +58,7 @@ leaves_from at (Ok leaves) (pair ∷ pairs) = leaves_from (at + 1) (added at lea
 -- the leaves of these pairs, or the first pair's fault
 abbrev pub leaves_of : List (List ℕ × List ℕ) → Result (List Leaf) FormFault
 leaves_of pairs = leaves_from 0 (Ok []) pairs
+
+-- a key of the pair's name is empty
+abbrev pub has_empty_key : List ℕ × List ℕ → Bool
+has_empty_key pair = list_any (λ key. length key == 0) (unwrap_or (keys_of pair.0) [])

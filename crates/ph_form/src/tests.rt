@@ -1,6 +1,6 @@
 //! Forms read whole: worked examples, each fault at each place, and the cost of the worst bodies.
 
-use crate::{Form, FormFault, read_form};
+use crate::{Form, FormFault, Node, read_form};
 use ph_base::NoMemory;
 use std::alloc::Global;
 use std::process::Abort;
@@ -40,152 +40,192 @@ fn read_text(alloc: Global, query: &[u8], body: &[u8]) -> Result<Vec<u8>, NoMemo
     }
 }
 
-fn reads(rt: &impl Abort, alloc: Global, query: &[u8], body: &[u8], want: &[u8]) {
-    match read_text(alloc, query, body) {
-        Ok(text) => assert!(rt; text.as_slice() == want),
-        Err(NoMemory) => assert!(rt; false),
+/// A query, a body, and what they are read as.
+struct Case {
+    query: &'static str,
+    body: &'static str,
+    want: &'static str,
+}
+
+fn case(query: &'static str, body: &'static str, want: &'static str) -> Case {
+    Case { query, body, want }
+}
+
+fn reads(rt: &impl Abort, alloc: Global, cases: &[Case]) {
+    for case in cases {
+        match read_text(alloc, case.query.as_bytes(), case.body.as_bytes()) {
+            Ok(text) => assert!(rt; text.as_slice() == case.want.as_bytes(), "{}", case.body),
+            Err(NoMemory) => assert!(rt; false),
+        }
     }
 }
 
 #[test]
 fn the_worked_body_clashes_at_its_last_pair(rt: HostRuntime) -> Result<(), Fail> {
-    let alloc = rt.alloc();
-    let clash = b"amount=2000&currency=usd&metadata[a]=1&metadata[a][b]=2";
-    reads(&rt, alloc, b"", clash, b"Clash 3");
-    let good = b"amount=2000&currency=usd&metadata[a]=1&expand[]=latest_charge";
-    let leaves = b"amount=2000;currency=usd;expand[0]=latest_charge;metadata[a]=1;";
-    reads(&rt, alloc, b"", good, leaves);
+    reads(
+        &rt,
+        rt.alloc(),
+        &[
+            case(
+                "",
+                "amount=2000&currency=usd&metadata[a]=1&metadata[a][b]=2",
+                "Clash 3",
+            ),
+            case(
+                "",
+                "amount=2000&currency=usd&metadata[a]=1&expand[]=latest_charge",
+                "amount=2000;currency=usd;expand[0]=latest_charge;metadata[a]=1;",
+            ),
+        ],
+    );
     Ok(())
 }
 
 #[test]
 fn names_of_other_forms_are_bad(rt: HostRuntime) -> Result<(), Fail> {
-    let alloc = rt.alloc();
-    let bodies: [&[u8]; 12] = [
-        b"=1",
-        b"[a]=1",
-        b"[]=1",
-        b"[]",
-        b"a]=1",
-        b"a[=1",
-        b"a[b=1",
-        b"a[b]c=1",
-        b"a[[b]]=1",
-        b"a[b]]=1",
-        b"a[b][=1",
-        b"[a][b][c][d][e]=1",
-    ];
-    for body in bodies {
-        reads(&rt, alloc, b"", body, b"BadName 0");
+    for body in [
+        "=1",
+        "[a]=1",
+        "[]=1",
+        "[]",
+        "a]=1",
+        "a[=1",
+        "a[b=1",
+        "a[b]c=1",
+        "a[[b]]=1",
+        "a[b]]=1",
+        "a[b][=1",
+        "[a][b][c][d][e]=1",
+        "a%5Bb=1",
+    ] {
+        reads(&rt, rt.alloc(), &[case("", body, "BadName 0")]);
     }
-    reads(&rt, alloc, b"", b"a%5Bb=1", b"BadName 0");
-    reads(&rt, alloc, b"x=1&[a]=1", b"y=1", b"BadName 1");
-    reads(&rt, alloc, b"x=1&&y=2&", b"&z=3&[a]=1&w=4", b"BadName 3");
-    reads(&rt, alloc, b"", b"x=1&y=2&[a]=1", b"BadName 2");
+    reads(
+        &rt,
+        rt.alloc(),
+        &[
+            case("x=1&[a]=1", "y=1", "BadName 1"),
+            case("x=1&&y=2&", "&z=3&[a]=1&w=4", "BadName 3"),
+            case("", "x=1&y=2&[a]=1", "BadName 2"),
+        ],
+    );
     Ok(())
 }
 
 #[test]
 fn four_keys_are_taken_and_five_are_too_deep(rt: HostRuntime) -> Result<(), Fail> {
-    let alloc = rt.alloc();
-    reads(&rt, alloc, b"", b"a[b][c][d][e]=1", b"a[b][c][d][e]=1;");
-    reads(&rt, alloc, b"", b"a[b][c][d][e][f]=1", b"TooDeep 0");
-    reads(&rt, alloc, b"", b"a[][][][][]=1", b"TooDeep 0");
-    reads(&rt, alloc, b"x=1&a[b][c][d][e][f]=1", b"", b"TooDeep 1");
     reads(
         &rt,
-        alloc,
-        b"x=1",
-        b"y=1&a[b][c][d][e][f]=1&z=1",
-        b"TooDeep 2",
-    );
-    reads(
-        &rt,
-        alloc,
-        b"",
-        b"a=1&a[b][c][d][e][f]=1&[]=1",
-        b"TooDeep 1",
+        rt.alloc(),
+        &[
+            case("", "a[b][c][d][e]=1", "a[b][c][d][e]=1;"),
+            case("", "a[b][c][d][e][f]=1", "TooDeep 0"),
+            case("", "a[][][][][]=1", "TooDeep 0"),
+            case("x=1&a[b][c][d][e][f]=1", "", "TooDeep 1"),
+            case("x=1", "y=1&a[b][c][d][e][f]=1&z=1", "TooDeep 2"),
+            case("", "a=1&a[b][c][d][e][f]=1&[]=1", "TooDeep 1"),
+        ],
     );
     Ok(())
 }
 
 #[test]
 fn a_place_that_is_taken_clashes(rt: HostRuntime) -> Result<(), Fail> {
-    let alloc = rt.alloc();
-    reads(&rt, alloc, b"", b"a=1&a=1", b"Clash 1");
-    reads(&rt, alloc, b"", b"a[b]=1&a=2", b"Clash 1");
-    reads(&rt, alloc, b"", b"a=1&a[]=2", b"Clash 1");
-    reads(&rt, alloc, b"", b"a[b][c]=1&a[b]=2", b"Clash 1");
-    reads(&rt, alloc, b"a=1", b"a=2", b"Clash 1");
-    reads(&rt, alloc, b"a=1&a=2", b"b=2", b"Clash 1");
-    reads(&rt, alloc, b"b=1", b"c=1&a=1&a[b][c]=2&d=1", b"Clash 3");
-    reads(&rt, alloc, b"", b"a[0]=1&a[]=2&a[1]=3", b"Clash 2");
     reads(
         &rt,
-        alloc,
-        b"",
-        b"a=1&ab=2&a!=3&b[a]=4&b[ab]=5",
-        b"a=1;a!=3;ab=2;b[a]=4;b[ab]=5;",
+        rt.alloc(),
+        &[
+            case("", "a=1&a=1", "Clash 1"),
+            case("", "a[b]=1&a=2", "Clash 1"),
+            case("", "a=1&a[]=2", "Clash 1"),
+            case("", "a[b][c]=1&a[b]=2", "Clash 1"),
+            case("a=1", "a=2", "Clash 1"),
+            case("a=1&a=2", "b=2", "Clash 1"),
+            case("b=1", "c=1&a=1&a[b][c]=2&d=1", "Clash 3"),
+            case("", "a[0]=1&a[]=2&a[1]=3", "Clash 2"),
+            case(
+                "",
+                "a=1&ab=2&a!=3&b[a]=4&b[ab]=5",
+                "a=1;a!=3;ab=2;b[a]=4;b[ab]=5;",
+            ),
+        ],
     );
     Ok(())
 }
 
 #[test]
 fn an_empty_key_is_the_least_free_number(rt: HostRuntime) -> Result<(), Fail> {
-    let alloc = rt.alloc();
-    reads(&rt, alloc, b"", b"a[]=x&a[]=y", b"a[0]=x;a[1]=y;");
     reads(
         &rt,
-        alloc,
-        b"",
-        b"a[0]=x&a[2]=y&a[]=z&a[]=w",
-        b"a[0]=x;a[1]=z;a[2]=y;a[3]=w;",
+        rt.alloc(),
+        &[
+            case("", "a[]=x&a[]=y", "a[0]=x;a[1]=y;"),
+            case(
+                "",
+                "a[0]=x&a[2]=y&a[]=z&a[]=w",
+                "a[0]=x;a[1]=z;a[2]=y;a[3]=w;",
+            ),
+            case("", "a[1]=x&a[]=y&a[01]=z", "a[01]=z;a[0]=y;a[1]=x;"),
+            case(
+                "a[][b]=x",
+                "a[][b]=y&a[][]=z",
+                "a[0][b]=x;a[1][b]=y;a[2][0]=z;",
+            ),
+            case("", "a[0][b]=x&a[]=y", "a[0][b]=x;a[1]=y;"),
+        ],
     );
-    reads(
-        &rt,
-        alloc,
-        b"",
-        b"a[1]=x&a[]=y&a[01]=z",
-        b"a[01]=z;a[0]=y;a[1]=x;",
-    );
-    reads(
-        &rt,
-        alloc,
-        b"a[][b]=x",
-        b"a[][b]=y&a[][]=z",
-        b"a[0][b]=x;a[1][b]=y;a[2][0]=z;",
-    );
-    reads(&rt, alloc, b"", b"a[0][b]=x&a[]=y", b"a[0][b]=x;a[1]=y;");
     Ok(())
 }
 
 #[test]
 fn names_and_texts_are_decoded(rt: HostRuntime) -> Result<(), Fail> {
-    let alloc = rt.alloc();
-    reads(&rt, alloc, b"a%5bb%5D=x+y%20z%26", b"", b"a[b]=x y z&;");
-    reads(&rt, alloc, b"", b"a+b=%zz&c&d=", b"a b=%zz;c=;d=;");
-    reads(&rt, alloc, b"", b"a=%ff", b"a=\xef\xbf\xbd;");
-    reads(&rt, alloc, b"", b"%c3%bc=\xc3\xbc", b"\xc3\xbc=\xc3\xbc;");
-    reads(&rt, alloc, b"", b"", b"");
+    reads(
+        &rt,
+        rt.alloc(),
+        &[
+            case("a%5bb%5D=x+y%20z%26", "", "a[b]=x y z&;"),
+            case("", "a+b=%zz&c&d=", "a b=%zz;c=;d=;"),
+            case("", "a=%ff", "a=\u{fffd};"),
+            case("", "%c3%bc=ü", "ü=ü;"),
+            case("", "", ""),
+        ],
+    );
     Ok(())
 }
 
-fn same_texts(rt: &impl Abort, alloc: Global, one: &[u8], other: &[u8]) {
-    match (read_text(alloc, b"", one), read_text(alloc, b"", other)) {
-        (Ok(one), Ok(other)) => assert!(rt; one.as_slice() == other.as_slice()),
+#[test]
+fn a_form_is_asked_by_name(rt: HostRuntime) -> Result<(), Fail> {
+    let alloc = rt.alloc();
+    let one = read_form(alloc, b"a=1", b"m[b]=2&m[b!]=3&n[c][d]=4&b=5");
+    let other = read_form(alloc, b"b=5&n[c][d]=4", b"m[b!]=3&m[b]=2&a=1");
+    let longer = read_form(alloc, b"", b"b=5&n[c][d]=4&m[b!]=3&m[b]=2&a=2");
+    match (one, other, longer) {
+        (Ok(one), Ok(other), Ok(longer)) => {
+            assert!(rt; one.is_same(&other));
+            assert!(rt; !one.is_same(&longer));
+            assert!(rt; one.text(b"m[b]") == Some(b"2".as_slice()));
+            assert!(rt; one.text(b"m").is_none());
+            assert!(rt; one.node(b"a") == Node::Text);
+            assert!(rt; one.node(b"n") == Node::Map);
+            assert!(rt; one.node(b"n[c]") == Node::Map);
+            assert!(rt; one.node(b"n[d]") == Node::Absent);
+            match (
+                one.entries(alloc, b"m"),
+                one.entries(alloc, b"n"),
+                one.entries(alloc, b"x"),
+            ) {
+                (Ok(Some(entries)), Ok(None), Ok(Some(nothing))) => {
+                    assert_eq!(rt; entries.len(), 2);
+                    assert!(rt; entries[0].name.as_slice() == b"b".as_slice());
+                    assert!(rt; entries[0].text.as_slice() == b"2".as_slice());
+                    assert!(rt; entries[1].name.as_slice() == b"b!".as_slice());
+                    assert!(rt; nothing.is_empty());
+                }
+                _ => assert!(rt; false),
+            }
+        }
         _ => assert!(rt; false),
     }
-}
-
-#[test]
-fn another_order_of_the_pairs_gives_an_equal_tree(rt: HostRuntime) -> Result<(), Fail> {
-    let alloc = rt.alloc();
-    same_texts(
-        &rt,
-        alloc,
-        b"amount=2000&metadata[a]=1&metadata[b][c]=2&currency=usd",
-        b"metadata[b][c]=2&currency=usd&metadata[a]=1&amount=2000",
-    );
     Ok(())
 }
 

@@ -19,4 +19,4 @@ pub returns-clause-utf8 : goal.returns-clause-utf8
 returns-clause-utf8 c =
     let e = returns-clause-entries c in
     rw e (all_put is_leaf_utf8 (entry_of c.args.upper.now c.args.leaf.now) (map leaf_of c.args.entries.now.entries)
-        (entry_utf8 c.args.upper.now c.args.leaf.now c.requires.below c.requires.utf8) c.requires.so_far)
+    (entry_utf8 c.args.upper.now c.args.leaf.now c.requires.below c.requires.utf8) c.requires.so_far)

@@ -2,7 +2,7 @@ use Rattle.std.proofs.Common.{◌≡◌, ◌≤◌, length, map, drop, Ok}
 use Rattle.ph_form.specs.Pairs.{pair_bytes, pairs_in}
 use Rattle.ph_form.specs.Leaves.{leaves_from, leaves_of}
 use Rattle.ph_form.specs.Index.{IsIndex, leaves_in}
-use Rattle.ph_form.proofs.read.read_form.Given as goal
+use Rattle.ph_form.proofs.read.read_pairs.Given as goal
 
 abbrev pub invariant-loop-i : goal.invariant-loop-i
 invariant-loop-i l =
