@@ -1,5 +1,5 @@
 -- The least free number, found from any number in front of which all are taken.
-use Rattle.std.proofs.Common.{◌≡◌, ℕ, zero, suc, ◌+◌, ◌-◌, ◌<◌, ◌≤◌, Bool, true, false, cond, List, length, refl, sym, ◌∙◌, ap, arith, add-one}
+use Rattle.std.proofs.Common.{◌≡◌, ℕ, zero, suc, ◌+◌, ◌-◌, ◌<◌, ◌≤◌, true, cond, List, length, refl, sym, ◌∙◌, arith, add-one}
 use Rattle.ph_form.specs.declared.leaf.Leaf.{Leaf}
 use Rattle.ph_form.specs.Index.{AreTaken}
 use Rattle.ph_form.specs.Leaves.{is_free, free_from, least_free}

@@ -1,10 +1,10 @@
 -- What a map that is keyed by names has after an insertion, and that a reading stays an index.
-use Rattle.std.proofs.Common.{◌≡◌, ℕ, ◌+◌, ◌<◌, ◌≤◌, ◌&&◌, ◌||◌, Bool, true, false, cond, List, [], ◌∷◌, length, map, not, suc, unwrap_or, Option, Some, None, Vec, refl, sym, ◌∙◌, ap, subst, bytes_eq, is_some, arith}
+use Rattle.std.proofs.Common.{◌≡◌, ℕ, ◌+◌, ◌≤◌, ◌&&◌, ◌||◌, Bool, true, false, cond, List, [], ◌∷◌, length, map, not, suc, unwrap_or, Option, Some, Vec, refl, sym, ◌∙◌, ap, subst, bytes_eq, is_some, arith}
 use Rattle.std.specs.declared.alloc.Global.{Global}
 use Rattle.std.specs.declared.cmp.Ordering.{Ordering}
 use Rattle.std.specs.declared.cmp.Ordering.TheVariants.{Less, Equal, Greater}
 use Rattle.std.specs.Ordering.{match_ordering, is_eq, nat_cmp}
-use Rattle.std.specs.Cmp.Lexicographic.{slice_cmp, bytes_decides, nat_list_cmp_total}
+use Rattle.std.specs.Cmp.Lexicographic.{slice_cmp, bytes_decides}
 use Rattle.std.specs.List.{list_all, list_any}
 use Rattle.std.specs.Map.{lookup}
 use Rattle.std.specs.BTreeMap.{BTreeMap, insert_entry}
@@ -14,7 +14,6 @@ use Rattle.std.specs.Fmt.{decimal}
 use Rattle.ph_form.specs.declared.reading.Reading.{Reading}
 use Rattle.ph_form.specs.Entries.{leaf_of}
 use Rattle.ph_form.specs.Index.{at_name, leaves_in, has_map, next_of, AreTaken, IsSet, IsIndex}
-use Rattle.ph_form.specs.Leaves.{is_free}
 use Rattle.ph_form.specs.Names.{is_below, is_within, child}
 use Rattle.ph_form.specs.Order.{is_leaf_utf8, put}
 

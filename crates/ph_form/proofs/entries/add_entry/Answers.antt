@@ -1,5 +1,4 @@
-use Rattle.std.proofs.Common.{◌≡◌, ◌∙◌, ap, map}
-use Rattle.std.specs.List.{list_all}
+use Rattle.std.proofs.Common.{◌∙◌, ap, map}
 use Rattle.ph_form.specs.Entries.{leaf_of}
 use Rattle.ph_form.specs.Names.{base_of}
 use Rattle.ph_form.specs.Order.{is_leaf_utf8}

@@ -1,4 +1,4 @@
-use Rattle.std.proofs.Common.{◌≡◌, rules}
+use Rattle.std.proofs.Common.{rules}
 use Rattle.ph_form.proofs.EntryLemmas.{text_utf8_at}
 use Rattle.ph_form.proofs.form.text_in.Goals as goal
 

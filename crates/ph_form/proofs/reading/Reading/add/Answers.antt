@@ -1,4 +1,4 @@
-use Rattle.std.proofs.Common.{◌≡◌, ◌∙◌, sym, subst, arith, rules, Some}
+use Rattle.std.proofs.Common.{◌≡◌, sym, subst, arith, rules, Some}
 use Rattle.std.specs.Str.{IsUtf8}
 use Rattle.ph_form.specs.Index.{leaves_in}
 use Rattle.ph_form.specs.Leaves.{filled}

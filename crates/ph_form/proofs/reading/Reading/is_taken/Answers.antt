@@ -1,4 +1,4 @@
-use Rattle.std.proofs.Common.{◌≡◌, ◌∙◌, refl}
+use Rattle.std.proofs.Common.{◌∙◌, refl}
 use Rattle.ph_form.specs.Index.{leaves_in}
 use Rattle.ph_form.proofs.IndexLemmas.{any_within}
 use Rattle.ph_form.proofs.reading.Reading.is_taken.Goals as goal

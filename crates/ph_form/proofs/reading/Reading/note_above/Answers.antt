@@ -1,4 +1,4 @@
-use Rattle.std.proofs.Common.{◌≡◌, refl, ◌∙◌, rules}
+use Rattle.std.proofs.Common.{refl, ◌∙◌, rules}
 use Rattle.ph_form.specs.Index.{has_map}
 use Rattle.ph_form.proofs.IndexLemmas.{noted_more, nothing_above_empty}
 use Rattle.ph_form.proofs.reading.Reading.note_above.Goals as goal

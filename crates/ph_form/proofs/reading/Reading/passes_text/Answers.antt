@@ -1,4 +1,4 @@
-use Rattle.std.proofs.Common.{◌≡◌, ◌||◌, sym, ◌∙◌, refl, rules}
+use Rattle.std.proofs.Common.{sym, refl, rules}
 use Rattle.ph_form.specs.Index.{leaves_in}
 use Rattle.ph_form.proofs.IndexLemmas.{any_below_more, none_above_empty}
 use Rattle.ph_form.proofs.reading.Reading.passes_text.Goals as goal

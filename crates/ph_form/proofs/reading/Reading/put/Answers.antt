@@ -1,7 +1,6 @@
-use Rattle.std.proofs.Common.{◌≡◌, ◌∙◌, ap, map}
+use Rattle.std.proofs.Common.{◌∙◌, ap, map}
 use Rattle.ph_form.specs.Entries.{leaf_of}
-use Rattle.ph_form.specs.Index.{has_map, leaves_in}
-use Rattle.ph_form.specs.Names.{is_below}
+use Rattle.ph_form.specs.Index.{leaves_in}
 use Rattle.ph_form.specs.Order.{put}
 use Rattle.ph_form.proofs.MapLemmas.{leaves_put, length_put_most, IsIndex-put}
 use Rattle.ph_form.proofs.Utf8Lemmas.{both_utf8}
