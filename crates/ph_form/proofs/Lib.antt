@@ -1,4 +1,5 @@
 pub mod EntryLemmas
+pub mod FreeLaw
 pub mod FreeLemmas
 pub mod IndexLemmas
 pub mod MapLemmas

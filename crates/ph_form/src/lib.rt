@@ -4,6 +4,7 @@
 mod entries;
 mod fault;
 mod form;
+mod laws;
 mod leaf;
 mod names;
 mod node;
@@ -14,6 +15,7 @@ mod reading;
 
 pub use fault::FormFault;
 pub use form::Form;
+pub use laws::least_number_is_free;
 pub use leaf::Leaf;
 pub use names::{is_below, is_within};
 pub use node::Node;

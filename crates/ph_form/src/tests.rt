@@ -41,13 +41,14 @@ fn read_text(alloc: Global, query: &[u8], body: &[u8]) -> Result<Vec<u8>, NoMemo
 }
 
 /// A query, a body, and what they are read as.
+#[derive(Clone, Copy)]
 struct Case {
     query: &'static str,
     body: &'static str,
     want: &'static str,
 }
 
-fn case(query: &'static str, body: &'static str, want: &'static str) -> Case {
+fn read_as(query: &'static str, body: &'static str, want: &'static str) -> Case {
     Case { query, body, want }
 }
 
@@ -66,12 +67,12 @@ fn the_worked_body_clashes_at_its_last_pair(rt: HostRuntime) -> Result<(), Fail>
         &rt,
         rt.alloc(),
         &[
-            case(
+            read_as(
                 "",
                 "amount=2000&currency=usd&metadata[a]=1&metadata[a][b]=2",
                 "Clash 3",
             ),
-            case(
+            read_as(
                 "",
                 "amount=2000&currency=usd&metadata[a]=1&expand[]=latest_charge",
                 "amount=2000;currency=usd;expand[0]=latest_charge;metadata[a]=1;",
@@ -98,15 +99,15 @@ fn names_of_other_forms_are_bad(rt: HostRuntime) -> Result<(), Fail> {
         "[a][b][c][d][e]=1",
         "a%5Bb=1",
     ] {
-        reads(&rt, rt.alloc(), &[case("", body, "BadName 0")]);
+        reads(&rt, rt.alloc(), &[read_as("", body, "BadName 0")]);
     }
     reads(
         &rt,
         rt.alloc(),
         &[
-            case("x=1&[a]=1", "y=1", "BadName 1"),
-            case("x=1&&y=2&", "&z=3&[a]=1&w=4", "BadName 3"),
-            case("", "x=1&y=2&[a]=1", "BadName 2"),
+            read_as("x=1&[a]=1", "y=1", "BadName 1"),
+            read_as("x=1&&y=2&", "&z=3&[a]=1&w=4", "BadName 3"),
+            read_as("", "x=1&y=2&[a]=1", "BadName 2"),
         ],
     );
     Ok(())
@@ -118,12 +119,12 @@ fn four_keys_are_taken_and_five_are_too_deep(rt: HostRuntime) -> Result<(), Fail
         &rt,
         rt.alloc(),
         &[
-            case("", "a[b][c][d][e]=1", "a[b][c][d][e]=1;"),
-            case("", "a[b][c][d][e][f]=1", "TooDeep 0"),
-            case("", "a[][][][][]=1", "TooDeep 0"),
-            case("x=1&a[b][c][d][e][f]=1", "", "TooDeep 1"),
-            case("x=1", "y=1&a[b][c][d][e][f]=1&z=1", "TooDeep 2"),
-            case("", "a=1&a[b][c][d][e][f]=1&[]=1", "TooDeep 1"),
+            read_as("", "a[b][c][d][e]=1", "a[b][c][d][e]=1;"),
+            read_as("", "a[b][c][d][e][f]=1", "TooDeep 0"),
+            read_as("", "a[][][][][]=1", "TooDeep 0"),
+            read_as("x=1&a[b][c][d][e][f]=1", "", "TooDeep 1"),
+            read_as("x=1", "y=1&a[b][c][d][e][f]=1&z=1", "TooDeep 2"),
+            read_as("", "a=1&a[b][c][d][e][f]=1&[]=1", "TooDeep 1"),
         ],
     );
     Ok(())
@@ -135,15 +136,15 @@ fn a_place_that_is_taken_clashes(rt: HostRuntime) -> Result<(), Fail> {
         &rt,
         rt.alloc(),
         &[
-            case("", "a=1&a=1", "Clash 1"),
-            case("", "a[b]=1&a=2", "Clash 1"),
-            case("", "a=1&a[]=2", "Clash 1"),
-            case("", "a[b][c]=1&a[b]=2", "Clash 1"),
-            case("a=1", "a=2", "Clash 1"),
-            case("a=1&a=2", "b=2", "Clash 1"),
-            case("b=1", "c=1&a=1&a[b][c]=2&d=1", "Clash 3"),
-            case("", "a[0]=1&a[]=2&a[1]=3", "Clash 2"),
-            case(
+            read_as("", "a=1&a=1", "Clash 1"),
+            read_as("", "a[b]=1&a=2", "Clash 1"),
+            read_as("", "a=1&a[]=2", "Clash 1"),
+            read_as("", "a[b][c]=1&a[b]=2", "Clash 1"),
+            read_as("a=1", "a=2", "Clash 1"),
+            read_as("a=1&a=2", "b=2", "Clash 1"),
+            read_as("b=1", "c=1&a=1&a[b][c]=2&d=1", "Clash 3"),
+            read_as("", "a[0]=1&a[]=2&a[1]=3", "Clash 2"),
+            read_as(
                 "",
                 "a=1&ab=2&a!=3&b[a]=4&b[ab]=5",
                 "a=1;a!=3;ab=2;b[a]=4;b[ab]=5;",
@@ -159,19 +160,19 @@ fn an_empty_key_is_the_least_free_number(rt: HostRuntime) -> Result<(), Fail> {
         &rt,
         rt.alloc(),
         &[
-            case("", "a[]=x&a[]=y", "a[0]=x;a[1]=y;"),
-            case(
+            read_as("", "a[]=x&a[]=y", "a[0]=x;a[1]=y;"),
+            read_as(
                 "",
                 "a[0]=x&a[2]=y&a[]=z&a[]=w",
                 "a[0]=x;a[1]=z;a[2]=y;a[3]=w;",
             ),
-            case("", "a[1]=x&a[]=y&a[01]=z", "a[01]=z;a[0]=y;a[1]=x;"),
-            case(
+            read_as("", "a[1]=x&a[]=y&a[01]=z", "a[01]=z;a[0]=y;a[1]=x;"),
+            read_as(
                 "a[][b]=x",
                 "a[][b]=y&a[][]=z",
                 "a[0][b]=x;a[1][b]=y;a[2][0]=z;",
             ),
-            case("", "a[0][b]=x&a[]=y", "a[0][b]=x;a[1]=y;"),
+            read_as("", "a[0][b]=x&a[]=y", "a[0][b]=x;a[1]=y;"),
         ],
     );
     Ok(())
@@ -183,11 +184,11 @@ fn names_and_texts_are_decoded(rt: HostRuntime) -> Result<(), Fail> {
         &rt,
         rt.alloc(),
         &[
-            case("a%5bb%5D=x+y%20z%26", "", "a[b]=x y z&;"),
-            case("", "a+b=%zz&c&d=", "a b=%zz;c=;d=;"),
-            case("", "a=%ff", "a=\u{fffd};"),
-            case("", "%c3%bc=ü", "ü=ü;"),
-            case("", "", ""),
+            read_as("a%5bb%5D=x+y%20z%26", "", "a[b]=x y z&;"),
+            read_as("", "a+b=%zz&c&d=", "a b=%zz;c=;d=;"),
+            read_as("", "a=%ff", "a=\u{fffd};"),
+            read_as("", "%c3%bc=ü", "ü=ü;"),
+            read_as("", "", ""),
         ],
     );
     Ok(())
