@@ -1,11 +1,11 @@
 -- What an act leaves, by what the object answered.
-use Rattle.std.proofs.Common.{◌≡◌, ℕ, ◌+◌, List, [], ◌∷◌, ◌++◌, length, ◌<◌, Some, Result, Ok, Err, IfOk, IfErr, IsErr, sym, refl, ap, ◌∙◌, subst, inl, inr}
+use Rattle.std.proofs.Common.{◌≡◌, ℕ, List, [], ◌++◌, ◌<◌, Some, Result, Ok, Err, IfOk, IfErr, IsErr, sym, refl, ap, ◌∙◌, subst, inl, inr}
 use Rattle.ph_lock.specs.declared.knowledge.Stage.TheVariants.{Idle}
 use Rattle.ph_lock.specs.declared.knowledge.Knowledge.{Knowledge}
 use Rattle.ph_lock.specs.Histories.{StartsWith, NoneOf, AllBelow, own_entries}
 use Rattle.ph_lock.specs.Seats.{IsSeatOf}
 use Rattle.ph_lock.specs.Added.{Added}
-use Rattle.ph_lock.specs.Passes.{Shown, Entered, OnlySaw}
+use Rattle.ph_lock.specs.Passes.{Shown, Entered}
 use Rattle.ph_lock.specs.Steps.{IsHistoryOf, Found}
 use Rattle.ph_lock.proofs.Owns.{own_more, own_absent, others_only}
 

@@ -1,8 +1,8 @@
 -- The rule as the proofs of steps use it: what is true of one seat in one record, and the rule's points as what is true of each seat.
 use Rattle.std.proofs.Common.{◌≡◌, ℕ, ◌%◌, ◌<◌, ◌≤◌, Bool, true, false, List, [], length, get_or, sym, refl, ap, ◌∙◌, subst, arith, Option, Some, None}
-use mathlib.Core.Option.{some, Option as Maybe}
+use mathlib.Core.Option.{some}
 use lib.ListN.{get_elem?}
-use Rattle.atomic_table.specs.Table.{State, Me, Allows, Splits, Joins, Final, Seen}
+use Rattle.atomic_table.specs.Table.{State, Me, Allows, Splits, Joins}
 use Rattle.ph_lock.specs.declared.knowledge.Stage.{Stage}
 use Rattle.ph_lock.specs.declared.knowledge.Stage.TheVariants.{Idle, Waits, Holds, Closes, Spent}
 use Rattle.ph_lock.specs.declared.knowledge.Knowledge.{Knowledge}

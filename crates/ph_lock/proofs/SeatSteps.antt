@@ -1,5 +1,5 @@
 -- The steps of the lock that split, join, name and close.
-use Rattle.std.proofs.Common.{◌≡◌, ◌≢◌, ℕ, zero, suc, ◌+◌, ◌%◌, ◌<◌, ◌≤◌, Bool, true, false, eqb, List, [], ◌∷◌, ◌++◌, length, get_or, set, sym, refl, ap, ◌∙◌, subst, ◌⊎◌, inl, inr, ⊎_elim, arith, length-set, get_or-set_other, get_or-set_same, eq-eqb, ne_eqb, Option, Some, None}
+use Rattle.std.proofs.Common.{◌≡◌, ◌≢◌, ℕ, zero, suc, ◌+◌, ◌<◌, Bool, true, false, eqb, List, [], ◌∷◌, ◌++◌, length, get_or, set, sym, refl, ap, ◌∙◌, subst, ◌⊎◌, inl, inr, ⊎_elim, arith, length-set, get_or-set_other, get_or-set_same, eq-eqb, ne_eqb, Option, Some, None}
 use mathlib.Core.Logic.{dite}
 use mathlib.Core.Option.{none, some, some-injective, some-ne-none}
 use mathlib.Core.List.{append-nil}
@@ -8,16 +8,16 @@ use lib.ListN.{get_elem?}
 use lib.Seq.{set-get_or}
 use prog.Atomic.{either}
 use Rattle.atomic_table.specs.Table.{State, Me, step, keeps, gives, stepped, put_back, rest, opening, Final, Seen, Allows, Splits, Joins}
-use Rattle.atomic_table.proofs.Lists.{at_set, set_here, set_else, set_again, at_longer, at_snoc, exchanged}
+use Rattle.atomic_table.proofs.Lists.{at_set, set_here, set_else, set_again, at_longer, at_snoc}
 use Rattle.ph_lock.specs.declared.knowledge.Stage.{Stage}
-use Rattle.ph_lock.specs.declared.knowledge.Stage.TheVariants.{Idle, Waits, Holds, Closes, Spent}
+use Rattle.ph_lock.specs.declared.knowledge.Stage.TheVariants.{Idle, Holds, Closes}
 use Rattle.ph_lock.specs.declared.knowledge.Knowledge.{Knowledge}
-use Rattle.ph_lock.specs.Histories.{StartsWith, StartsWithEach, AllBelow, own_entries, longer}
-use Rattle.ph_lock.specs.Rule.{ticket_of, IsLive, IsNamed}
+use Rattle.ph_lock.specs.Histories.{StartsWith, AllBelow, own_entries, longer}
+use Rattle.ph_lock.specs.Rule.{ticket_of, IsLive}
 use Rattle.ph_lock.specs.Steps.{with_stage, fresh_of, both_of, spent_of, forgetting, named_as, Tells, Takes, Shuts}
 use Rattle.ph_lock.proofs.BySeat.{number, none_some, Stands, Fits, Kept}
 use Rattle.ph_lock.proofs.Owns.{own_absent, own_before, own_between, prefix_le, longer_right, longer_left}
-use Rattle.ph_lock.proofs.TurnSteps.{is_on, live, at_length, apart_set, each_set, below_set, Each}
+use Rattle.ph_lock.proofs.TurnSteps.{is_on, at_length, apart_set, each_set, below_set, Each}
 
 abbrev is_closing : {E : Type 0} → Stage E → Type 0
 is_closing (Closes t h) = Unit {0}

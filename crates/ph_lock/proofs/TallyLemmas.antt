@@ -1,7 +1,7 @@
 -- A tally with one entry more.
-use Rattle.std.proofs.Common.{◌≡◌, ℕ, ◌+◌, ◌*◌, ◌<◌, ◌≤◌, max, List, [], ◌∷◌, ◌++◌, length, sym, refl, ap, ◌∙◌, subst, arith}
+use Rattle.std.proofs.Common.{◌≡◌, ℕ, ◌+◌, ◌*◌, ◌<◌, ◌≤◌, max, List, [], ◌∷◌, ◌++◌, length, arith}
 use Rattle.ph_lock.specs.Histories.{AllBelow}
-use Rattle.ph_lock.specs.Tallies.{caller_of, amount_of, sum_of, AllSmall, top_of}
+use Rattle.ph_lock.specs.Tallies.{caller_of, sum_of, AllSmall, top_of}
 
 pub sum-append : (xs : List (ℕ × ℕ)) (e : ℕ × ℕ) → sum_of (xs ++ e ∷ []) ≡ sum_of xs + e.1
 sum-append [] e = omega arith

@@ -1,5 +1,5 @@
 -- A seat draws a ticket, takes its turn and gives it back: these steps keep the rule.
-use Rattle.std.proofs.Common.{◌≡◌, ◌≢◌, ℕ, zero, suc, ◌+◌, ◌-◌, ◌%◌, ◌^◌, ◌<◌, ◌≤◌, Bool, true, false, cond, eqb, List, [], ◌∷◌, ◌++◌, ◌⊎◌, length, get_or, set, sym, refl, ap, ◌∙◌, subst, inl, inr, ⊎_elim, arith, le_refl, length-set, get_or-set_other, get_or-set_same, eq-eqb, ne_eqb, Option, Some, None}
+use Rattle.std.proofs.Common.{◌≡◌, ◌≢◌, ℕ, zero, suc, ◌+◌, ◌-◌, ◌%◌, ◌<◌, ◌≤◌, Bool, true, false, cond, eqb, List, [], ◌∷◌, ◌++◌, length, get_or, set, sym, refl, ap, ◌∙◌, subst, inl, inr, ⊎_elim, arith, length-set, get_or-set_other, get_or-set_same, eq-eqb, ne_eqb, Option, Some, None}
 use mathlib.Core.Logic.{dite}
 use mathlib.Core.Option.{Option as Maybe, none, some, some-injective, some-ne-none}
 use native.Mathlib.Decide.{ℕ_discrete}
@@ -12,12 +12,12 @@ use Rattle.atomic_table.proofs.Lists.{at_set, set_here, set_else, set_again, one
 use Rattle.ph_lock.specs.declared.knowledge.Stage.{Stage}
 use Rattle.ph_lock.specs.declared.knowledge.Stage.TheVariants.{Idle, Waits, Holds, Closes, Spent}
 use Rattle.ph_lock.specs.declared.knowledge.Knowledge.{Knowledge}
-use Rattle.ph_lock.specs.Histories.{StartsWith, StartsWithEach, AllBelow, own_entries}
+use Rattle.ph_lock.specs.Histories.{StartsWith, AllBelow, own_entries}
 use Rattle.ph_lock.specs.Rule.{ticket_of, IsLive, IsNamed}
-use Rattle.ph_lock.specs.Steps.{with_stage, Draws, Turns, left_with, Leaves, IsHistoryOf, Found}
+use Rattle.ph_lock.specs.Steps.{with_stage, Draws, Turns, left_with, Leaves, IsHistoryOf}
 use Rattle.ph_lock.proofs.BySeat.{number, none_some, in_line, Stands, Fits, Kept}
 use Rattle.ph_lock.proofs.Pigeons.{pigeons}
-use Rattle.ph_lock.proofs.Owns.{own-append, own_same, own_other}
+use Rattle.ph_lock.proofs.Owns.{own-append, own_other}
 
 abbrev word : ℕ
 word = 18446744073709551616

@@ -1,5 +1,5 @@
 -- The seats that passes and notes have between two calls.
-use Rattle.std.specs.Prelude.{◌≡◌, ℕ, ◌<◌, List, [], Option, Some, None}
+use Rattle.std.specs.Prelude.{◌≡◌, ℕ, ◌<◌, List, [], Some, None}
 use Rattle.ph_lock.specs.declared.knowledge.Stage.TheVariants.{Idle}
 use Rattle.ph_lock.specs.declared.knowledge.Knowledge.{Knowledge}
 use Rattle.ph_lock.specs.Histories.{own_entries}

@@ -1,11 +1,11 @@
-ghost use Rattle.std.specs.Prelude.{◌≡◌, ℕ, ◌<◌, ◌≤◌, [], ◌∷◌, length, All, IfSome};
+ghost use Rattle.std.specs.Prelude.{◌≡◌, ℕ, [], ◌∷◌, length, IfSome};
 ghost use Rattle.ph_lock.specs.Passes.{SamePass};
 
 use crate::tally::{Add, Over, Tally};
 use crate::{Lock, Object, Pass, Refused};
 use std::sync::Wait;
 use std::test::Fail;
-use std::thread::{for_each_mut, join};
+use std::thread::{Threads, join};
 
 // Two passes fill a tally of limit 2: 5 is answered 5, 7 is answered 12, and 1 is refused. The second pass's note is
 // then met by the first.
@@ -34,7 +34,11 @@ fn fill_two<R: Wait>(
     };
     let note = lock.note(second);
     lock.meet(first, note);
-    if answer == 5 && sum == 12 { Some(()) } else { None }
+    if answer == 5 && sum == 12 {
+        Some(())
+    } else {
+        None
+    }
 }
 
 #[test]
@@ -49,5 +53,71 @@ fn two_passes_fill_a_tally_of_two(rt: HostRuntime) -> Result<(), Fail> {
     let _view = lock.join(&mut first, second);
     let (tally, _view) = lock.close(&rt, first);
     assert!(rt; tally.callers() == 2 && tally.look(&Over(1)) && !tally.look(&Over(2)));
+    Ok(())
+}
+
+// Adds 1 so many times, and gives the pass back.
+fn add_ones<R: Wait>(rt: &R, lock: &Lock<Tally>, mut pass: Pass<Tally>, times: u32) -> Pass<Tally>
+    requires { pass.lock ≡ lock.now }
+    ensures { result.lock ≡ pass.lock }
+{
+    for _ in 0..times {
+        let _ = lock.act(rt, &mut pass, Add(1));
+    }
+    pass
+}
+
+// Two threads add 1 so many times each.
+fn add_ones_by_two<R: Threads + Wait + Sync>(
+    rt: &R,
+    lock: &Lock<Tally>,
+    first: Pass<Tally>,
+    second: Pass<Tally>,
+    times: u32,
+) -> (Pass<Tally>, Pass<Tally>)
+    requires { (first.lock ≡ lock.now) × (second.lock ≡ lock.now) }
+    ensures { (result.0.lock ≡ first.lock) × (result.1.lock ≡ second.lock) }
+{
+    join(
+        rt,
+        move || add_ones(rt, lock, first, times),
+        move || add_ones(rt, lock, second, times),
+    )
+}
+
+#[test]
+fn two_threads_add_a_hundred_ones_each(rt: HostRuntime) -> Result<(), Fail> {
+    let Ok((lock, mut first)) = Lock::new(rt.alloc(), Tally::new(rt.alloc(), 1000)) else {
+        panic!(rt; "no memory")
+    };
+    let second = lock.split(&rt, &mut first);
+    let (mut first, second) = add_ones_by_two(&rt, &lock, first, second, 100);
+    let _view = lock.join(&mut first, second);
+    let (tally, _view) = lock.close(&rt, first);
+    assert!(rt; tally.look(&Over(199)) && !tally.look(&Over(200)));
+    Ok(())
+}
+
+#[test]
+fn four_threads_add_a_thousand_ones_each(rt: HostRuntime) -> Result<(), Fail> {
+    let Ok((lock, mut first)) = Lock::new(rt.alloc(), Tally::new(rt.alloc(), 10_000)) else {
+        panic!(rt; "no memory")
+    };
+    let second = lock.split(&rt, &mut first);
+    let third = lock.split(&rt, &mut first);
+    let fourth = lock.split(&rt, &mut first);
+    let (shared, rt) = (&lock, &rt);
+    let ((mut first, second), (third, fourth)) = join(
+        rt,
+        move || add_ones_by_two(rt, shared, first, second, 1000),
+        move || add_ones_by_two(rt, shared, third, fourth, 1000),
+    );
+    let _views = [
+        lock.join(&mut first, second),
+        lock.join(&mut first, third),
+        lock.join(&mut first, fourth),
+    ];
+    let (tally, _view) = lock.close(rt, first);
+    assert!(rt; tally.look(&Over(3999)) && !tally.look(&Over(4000)));
     Ok(())
 }

@@ -8,9 +8,8 @@ ghost use Rattle.ph_lock.specs.declared.knowledge.Stage.TheVariants.{Idle, Waits
 use crate::Object;
 use crate::knowledge::{LockSeat, LockTable, OwnTable};
 use crate::steps::{Draw, Leave, Merge, Name, Shut, Tell, Turn};
-use std::hint;
 use std::sync::Wait;
-use std::thread;
+use std::{hint, thread};
 
 // The words of the table.
 const TICKET: usize = 0;
@@ -44,12 +43,7 @@ pub fn enter<R: Wait, O: Object>(rt: &R, table: &LockTable<O>, seat: &mut LockSe
 }
 
 // Waits until the ticket is served.
-fn wait_turn<R: Wait, O: Object>(
-    rt: &R,
-    table: &LockTable<O>,
-    seat: &mut LockSeat<O>,
-    ticket: u64,
-)
+fn wait_turn<R: Wait, O: Object>(rt: &R, table: &LockTable<O>, seat: &mut LockSeat<O>, ticket: u64)
     requires table { (seat.old.table_id ≡ table.now.table_id) × (table.now.table_id.words ≡ 3) × (table.now.table_id.slots ≡ 1) }
     requires waits { (t : ℕ) × (seat.old.me.0.stage ≡ Waits t) × (ticket ≡ t % 2 ^ 64) × (seat.old.me.1 ≡ []) }
     ensures table { (seat.new.table_id ≡ seat.old.table_id) × (seat.new.id ≡ seat.old.id) }

@@ -1,4 +1,4 @@
-use Rattle.std.proofs.Common.{◌≡◌, rules, sym, subst, ap, ◌∙◌, Some}
+use Rattle.std.proofs.Common.{◌≡◌, sym, subst, ap, ◌∙◌, Some}
 use Rattle.ph_lock.specs.Histories.{StartsWith}
 use Rattle.ph_lock.proofs.Acts.{still_allowed, history_of, entered, refused}
 use Rattle.ph_lock.proofs.lock.Lock.act.Goals as goal
@@ -53,6 +53,6 @@ returns-clause-still g c =
     let left = c.leave.ensures.left in
     let applied = c.apply-answer.ensures in
     let allowed = subst (λ n. o.allows (o.base object) (o.history object) n c.args.act) (sym name)
-        (still_allowed o.base o.history o.by o.lawful o.allows g.met.O.Object.stays inside.seat.me.0 pass object c.args.act (c.pass.invariant.named ∙ ap (λ n. Some n) name) (ap (λ p. p.base) is) (ap (λ p. p.front) is) found c.requires.allowed) in
+    (still_allowed o.base o.history o.by o.lawful o.allows g.met.O.Object.stays inside.seat.me.0 pass object c.args.act (c.pass.invariant.named ∙ ap (λ n. Some n) name) (ap (λ p. p.base) is) (ap (λ p. p.front) is) found c.requires.allowed) in
     refused o.by o.deed o.deed_of o.answers o.full (o.base object) (o.history object) (o.history c.apply-answer.new.self) inside.caller c.args.act c.apply-answer.result _ (λ b h. o.allows b h inside.caller c.args.act) _ _
     (ap (λ m. m.0.base) left ∙ (ap (λ m. m.0.base) turn.1 ∙ sym found.base_is)) (ap (λ m. m.0.front) left) allowed applied.err

@@ -1,4 +1,4 @@
-use Rattle.std.proofs.Common.{◌≡◌, rules, sym, subst, ap, [], ◌∷◌, Some}
+use Rattle.std.proofs.Common.{◌≡◌, rules, sym, subst, [], ◌∷◌, Some}
 use Rattle.ph_lock.specs.Histories.{AllBelow}
 use Rattle.ph_lock.proofs.Keeps.{begins}
 use Rattle.ph_lock.proofs.Acts.{first_seat}
@@ -23,5 +23,5 @@ returns-in-Ok-new-clause-lawful g c =
     let o = g.O.Object in
     let same : c.args.object ≡ c.of.result.value = sym c.of.ensures in
     let seat = first_seat o.by o.lawful c.in-Ok-new.seat.me (o.base c.of.result.value) c.callers-caller.result (o.history c.of.result.value) (search rules) (search rules)
-        (subst (λ x. o.lawful (o.base x) (o.history x)) same c.requires.lawful) (subst (λ x. AllBelow o.by c.callers-caller.result (o.history x)) same c.callers-caller.ensures.above) in
+    (subst (λ x. o.lawful (o.base x) (o.history x)) same c.requires.lawful) (subst (λ x. AllBelow o.by c.callers-caller.result (o.history x)) same c.callers-caller.ensures.above) in
     record { legal = seat.legal; own = seat.own }

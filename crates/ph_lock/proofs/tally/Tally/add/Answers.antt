@@ -1,4 +1,4 @@
-use Rattle.std.proofs.Common.{◌≡◌, ℕ, ◌+◌, ◌*◌, ◌^◌, ◌<◌, ◌≤◌, rules, arith, length, sym, ap, ◌∙◌, subst, ◌++◌, ◌∷◌, [], max}
+use Rattle.std.proofs.Common.{◌≡◌, ◌+◌, ◌≤◌, rules, arith, length, sym, ap, ◌∙◌, subst, ◌++◌, ◌∷◌, [], max}
 use Rattle.ph_lock.specs.Tallies.{sum_of, top_of, AllSmall}
 use Rattle.ph_lock.proofs.TallyLemmas.{sum-append, sum_small, small-append, top-append, length-append_one}
 use Rattle.ph_lock.proofs.tally.Tally.add.Goals as goal
