@@ -24,9 +24,9 @@ const OBJECT: usize = 0;
 // Callers are below it.
 const MOST: u64 = 1 << 62;
 
-// A seat that waits for its turn looks so often before it begins to yield the processor between looks. Turns are
-// served first come, first served, so a waiter that only looked could keep the next in line off the processor; one
-// that yielded at once would pay for it where the turn is short.
+// A seat that waits for its turn looks so often before it begins to sleep between looks, until the word changes. Turns
+// are served first come, first served, so a waiter that went on looking could keep the holder, or the next in line,
+// off the processor; one that slept at once would pay for it where the turn is short.
 const LOOKS: u32 = 50;
 
 /// Draws a ticket, waits until it is served, and takes the object out.
@@ -42,6 +42,13 @@ pub fn enter<R: Wait, O: Object>(rt: &R, table: &LockTable<O>, seat: &mut LockSe
     table.exchange(seat, OBJECT, None).unwrap()
 }
 
+// What the system compares before it lets a thread sleep.
+fn low_half(word: u64) -> u32
+    ensures { result ≡ word % 2 ^ 32 }
+{
+    (word & 0xffff_ffff) as u32
+}
+
 // Waits until the ticket is served.
 fn wait_turn<R: Wait, O: Object>(rt: &R, table: &LockTable<O>, seat: &mut LockSeat<O>, ticket: u64)
     requires table { (seat.old.table_id ≡ table.now.table_id) × (table.now.table_id.words ≡ 3) × (table.now.table_id.slots ≡ 1) }
@@ -51,14 +58,15 @@ fn wait_turn<R: Wait, O: Object>(rt: &R, table: &LockTable<O>, seat: &mut LockSe
 {
     let mut looks = 0;
     for _ in rt.forever() {
-        if table.load::<Turn<O>>(seat, SERVING) == ticket {
+        let served = table.load::<Turn<O>>(seat, SERVING);
+        if served == ticket {
             return;
         }
         if looks < LOOKS {
             looks += 1;
             hint::spin_loop();
         } else {
-            thread::yield_now();
+            table.park(rt, SERVING, low_half(served));
         }
     }
     unreachable!()
@@ -75,7 +83,11 @@ pub fn leave<O: Object>(table: &LockTable<O>, seat: &mut LockSeat<O>, object: O,
 {
     let was = table.exchange(seat, OBJECT, Some(object));
     let None = was else { unreachable!() };
-    table.fetch_add::<Leave<O>>(seat, SERVING, 1);
+    let served = table.fetch_add::<Leave<O>>(seat, SERVING, 1);
+    // A ticket that is drawn after this look finds the word changed, so its seat does not sleep on the old one.
+    if table.peek(TICKET) != served.wrapping_add(1) {
+        table.wake_all(SERVING);
+    }
 }
 
 // Takes a turn that never ends, and leaves the object in its slot.

@@ -2,8 +2,8 @@ use Rattle.std.proofs.Common.{rules}
 use Rattle.ph_lock.proofs.Keeps.{leave}
 use Rattle.ph_lock.proofs.turns.leave.Goals as goal
 
-pub fetch_add-requires : goal.fetch_add-requires
-fetch_add-requires g c =
+pub fetch_add-served-requires : goal.fetch_add-served-requires
+fetch_add-served-requires g c =
     let o = g.O.Object in
     let table = c.args.table.now in
     let seat = c.exchange-was.new.seat in

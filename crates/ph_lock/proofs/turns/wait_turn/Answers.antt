@@ -2,8 +2,8 @@ use Rattle.std.proofs.Common.{rules, ap, ◌∙◌}
 use Rattle.ph_lock.proofs.Keeps.{turn}
 use Rattle.ph_lock.proofs.turns.wait_turn.Goals as goal
 
-pub load-requires : goal.load-requires
-load-requires g c =
+pub load-served-requires : goal.load-served-requires
+load-served-requires g c =
     let o = g.O.Object in
     let table = c.args.table.now in
     let seat = c.loop.seat in
