@@ -1,6 +1,6 @@
 #!/usr/bin/env bash
-# Acts a second at the lock, beside stock Rust on the same machine: a std::sync::Mutex, and ticket locks that load so
-# often before they yield the processor. Each thread works about 40 microseconds between acts and 3 inside them.
+# Acts a second at the lock, beside stock Rust on the same machine: a std::sync::Mutex, and a ticket lock whose waiters
+# load 50 times and then yield the processor. Each thread works about 40 microseconds between acts and 3 inside them.
 #
 #   bench/lock.sh [ROUNDS] [ACTS]     rounds that are measured (5), and acts in all of one measurement (20000)
 #
@@ -12,7 +12,7 @@ rounds=${1:-5}
 acts=${2:-20000}
 outside=19000
 inside=1430
-looks="0 50 1000"
+looks="50"
 build=$(mktemp -d)
 trap 'rm -rf "$build"' EXIT
 rustc -C opt-level=3 -C target-cpu=x86-64-v2 -o "$build/stock" bench/lock_stock.rs
@@ -46,6 +46,6 @@ for threads in 1 2 4 8 16; do
         done
     done
     line="$threads threads: mutex $(awk "BEGIN { printf \"%d\", 1000 * $acts / $(median <"$build/mutex") }") acts a second; ours $(median <"$build/ours") of it"
-    for n in $looks; do line="$line; ticket lock after $n loads $(median <"$build/ticket$n")"; done
+    for n in $looks; do line="$line; a ticket lock that yields after $n loads $(median <"$build/ticket$n")"; done
     echo "$line; ours from $(sort -n "$build/ours" | head -1) to $(sort -n "$build/ours" | tail -1)"
 done

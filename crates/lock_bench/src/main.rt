@@ -12,10 +12,9 @@ use busy::{Busy, work};
 use ph_lock::tally::{Add, Over};
 use ph_lock::{Lock, Object, Pass};
 use std::alloc::{AllocError, Global};
-use std::env;
-use std::io;
 use std::sync::Wait;
 use std::thread::{Threads, for_each_mut};
+use std::{env, io};
 
 /// How much is to be done.
 #[derive(Clone, Copy)]
@@ -45,19 +44,17 @@ fn act_often<R: Wait>(rt: &R, lock: &Lock<Busy>, worker: &mut Worker, load: Load
 }
 
 // All workers act at once.
-fn act_all<R: Threads + Wait + Sync>(
-    rt: &R,
-    lock: &Lock<Busy>,
-    workers: &mut [Worker],
-    load: Load,
-)
+fn act_all<R: Threads + Wait + Sync>(rt: &R, lock: &Lock<Busy>, workers: &mut [Worker], load: Load)
     requires { All (λ w. w.pass.lock ≡ lock.now) workers.old }
 {
     let threads = workers.len();
     if threads > 0 {
-        for_each_mut(rt, workers, threads, &|_, worker| {
-            act_often(rt, lock, worker, load)
-        });
+        for_each_mut(
+            rt,
+            workers,
+            threads,
+            &|_, worker| { act_often(rt, lock, worker, load) },
+        );
     }
 }
 
@@ -123,6 +120,9 @@ fn main(rt: HostRuntime) -> io::Result<()> {
     }
     let (busy, _view) = lock.close(&rt, first);
     let all = !busy.look(&Over(total)) && (total == 0 || busy.look(&Over(total - 1)));
-    println!(rt; "{total} acts, all entered: {all}, {mixed}, {}", busy.mixed())?;
+    println!(rt;
+        "{total} acts, all entered: {all}, {mixed}, {}",
+        busy.mixed()
+    )?;
     Ok(())
 }

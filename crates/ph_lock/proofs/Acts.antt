@@ -1,5 +1,6 @@
 -- What an act leaves, by what the object answered.
-use Rattle.std.proofs.Common.{◌≡◌, ℕ, List, [], ◌++◌, ◌<◌, Some, Result, Ok, Err, IfOk, IfErr, IsErr, sym, refl, ap, ◌∙◌, subst, inl, inr}
+use Rattle.std.proofs.Common.{◌≡◌, ◌∷◌, ℕ, List, [], ◌++◌, ◌<◌, Some, Result, Ok, Err, IfOk, IfErr, IsErr, sym, refl, ap, ◌∙◌, subst, inl, inr}
+use Rattle.std.proofs.lemmas.List.{append_assoc}
 use Rattle.ph_lock.specs.declared.knowledge.Stage.TheVariants.{Idle}
 use Rattle.ph_lock.specs.declared.knowledge.Knowledge.{Knowledge}
 use Rattle.ph_lock.specs.Histories.{StartsWith, NoneOf, AllBelow, own_entries}
@@ -48,6 +49,12 @@ module _ {Entry Base Deed Act Answer : Type 0} (by : Entry → ℕ) (deed : Entr
       → IfErr r (λ x. P x × (after ≡ before)) → IsHistoryOf by caller before after
   history_of (Ok answer) P ok err = inr (ok.entry, ok.of_caller, ok.at_end)
   history_of (Err x) P ok err = inl err.1
+
+  -- it begins with what the pass had seen
+  pub begins_with : {X : Type 0} (r : Result Answer X) (P : X → Type 0) (front : List Entry) → StartsWith before front → IfOk r (λ answer. Added by deed deed_of answers b before after caller act answer)
+      → IfErr r (λ x. P x × (after ≡ before)) → StartsWith after front
+  begins_with (Ok answer) P front seen ok err = (seen.0 ++ ok.entry ∷ [], ok.at_end ∙ (ap (λ (l : List Entry). l ++ ok.entry ∷ []) seen.1 ∙ append_assoc front seen.0 (ok.entry ∷ [])))
+  begins_with (Err x) P front seen ok err = subst (λ (l : List Entry). StartsWith l front) (sym err.1) seen
 
   -- the pass has the entry
   pub entered : (X : Type 0) (r : Result Answer X) (old new : Shown Entry Base) → b ≡ old.base → caller ≡ old.caller → new.front ≡ after → new.mine ≡ own_entries by caller 1 after

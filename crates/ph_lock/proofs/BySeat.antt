@@ -93,6 +93,7 @@ module _ {O E B : Type 0} (base : O → B) (history : O → List E) (by : E → 
     pub apart : (i j : ℕ) (v w : Knowledge E B) (name : ℕ) → get_elem? s.views i ≡ some v → get_elem? s.views j ≡ some w → v.caller ≡ Some name → w.caller ≡ Some name → i ≡ j
     pub below : (seat : ℕ) (v : Knowledge E B) (name : ℕ) → get_elem? s.views seat ≡ some v → v.caller ≡ Some name → name < get_or s.words 2 0
     pub line : (t : ℕ) → served ≤ t → t < drawn → (v : Knowledge E B) × (get_elem? s.views (holder_of t) ≡ some v) × (ticket_of v.stage ≡ Some t)
+    pub longest : (seat : ℕ) × (v : Knowledge E B) × (get_elem? s.views seat ≡ some v) × IsLive v.stage × (v.front ≡ whole)
     pub away : out ≡ true → (v : Knowledge E B) × (t : ℕ) × (h : List E) × (get_elem? s.views (holder_of served) ≡ some v) × (v.stage ≡ Holds t h)
     pub home : out ≡ false → AtHome base history by lawful b whole s.homes
 
@@ -125,6 +126,7 @@ module _ {O E B : Type 0} (base : O → B) (history : O → List E) (by : E → 
       apart = r.callers.apart;
       below = r.names.seats;
       line = r.tickets.held;
+      longest = r.object.longest;
       away = r.object.away;
       home = r.object.home;
     }
@@ -147,6 +149,7 @@ module _ {O E B : Type 0} (base : O → B) (history : O → List E) (by : E → 
       one_turn = λ seat v at lives h notes. let f = k.each seat v at lives in turn_of k.served k.drawn k.holder_of k.whole v.caller seat v.stage h f.stands notes;
       one_history = (k.law, λ seat v at lives. let f = k.each seat v at lives in (f.seen, f.law));
       object = record {
+        longest = k.longest;
         home = k.home;
         away = k.away;
         noted = λ seat v at lives h notes. let f = k.each seat v at lives in noted_is k.served k.drawn k.holder_of k.whole v.caller seat v.stage h f.stands notes;

@@ -35,6 +35,12 @@ prefix_le (x ∷ xs) (y ∷ ys) r q e l =
     let h : x ≡ y = ap (head_or x) e in
     (p.0, λ i. sym h i ∷ p.1 i)
 
+-- two histories that begin with each other are one
+pub same_history : {E : Type 0} (a b : List E) → StartsWith a b → StartsWith b a → b ≡ a
+same_history a b s t =
+    let all : a ++ (t.0 ++ s.0) ≡ a = sym (append_assoc a t.0 s.0) ∙ (ap (λ l. l ++ s.0) (sym t.1) ∙ sym s.1) in
+    t.1 ∙ (ap (λ l. a ++ l) (nothing_before t.0 s.0 (cancel a (t.0 ++ s.0) all)) ∙ append-nil a)
+
 longer_more : {E : Type 0} (a r : List E) → longer a (a ++ r) ≡ a ++ r
 longer_more [] r = refl
 longer_more (x ∷ xs) r = ap (λ l. x ∷ l) (longer_more xs r)

@@ -16,8 +16,8 @@ use Rattle.ph_lock.specs.Histories.{StartsWith, AllBelow, own_entries, longer}
 use Rattle.ph_lock.specs.Rule.{ticket_of, IsLive}
 use Rattle.ph_lock.specs.Steps.{with_stage, fresh_of, both_of, spent_of, forgetting, named_as, Tells, Takes, Shuts}
 use Rattle.ph_lock.proofs.BySeat.{number, none_some, Stands, Fits, Kept}
-use Rattle.ph_lock.proofs.Owns.{own_absent, own_before, own_between, prefix_le, longer_right, longer_left}
-use Rattle.ph_lock.proofs.TurnSteps.{is_on, at_length, apart_set, each_set, below_set, Each}
+use Rattle.ph_lock.proofs.Owns.{same_history, own_absent, own_before, own_between, prefix_le, longer_right, longer_left}
+use Rattle.ph_lock.proofs.TurnSteps.{Longest, longest_set, is_on, at_length, apart_set, each_set, below_set, Each}
 
 abbrev is_closing : {E : Type 0} → Stage E → Type 0
 is_closing (Closes t h) = Unit {0}
@@ -40,7 +40,7 @@ module _ {O E B : Type 0} (base : O → B) (history : O → List E) (by : E → 
   abbrev Held : B → St → Type 0
   Held = Kept base history by lawful
 
-  -- K5: a new seat with the same front
+  -- split: a new seat with the same front
   pub splits : (b : B) (id : ℕ) (v : K) → IsLive v.stage → Splits (Held b) id v v (fresh_of v)
   splits b id v lives s r at =
       let w : K = fresh_of v in let mine = r.each id v at lives in
@@ -66,11 +66,12 @@ module _ {O E B : Type 0} (base : O → B) (history : O → List E) (by : E → 
             (λ (e : w ≡ x). absurd (none_some c (ap (λ (z : K). z.caller) e ∙ cx))) (at_snoc s.views w x i ix);
         below = λ j x c there n. ⊎_elim (λ old. r.below j x c old n) (λ (e : w ≡ x). absurd (none_some c (ap (λ (z : K). z.caller) e ∙ n))) (at_snoc s.views w x j there);
         line = λ t from under. let l = r.line t from under in (l.0, at_longer s.views (w ∷ []) (r.holder_of t) l.0 l.1, l.2);
+        longest = let l = r.longest in (l.0, l.1, at_longer s.views (w ∷ []) l.0 l.1 l.2, l.3, l.4);
         away = λ gone. let a = r.away gone in (a.0, a.1, a.2, at_longer s.views (w ∷ []) (r.holder_of r.served) a.0 a.3, a.4);
         home = r.home;
       }
 
-  -- K6: one pass takes in another
+  -- join: one pass takes in another
   front_of : (whole a d : List E) → StartsWith whole a → StartsWith whole d → StartsWith (longer a d) a × (StartsWith (longer a d) d × ((longer a d ≡ d) × StartsWith d a) ⊎ (StartsWith (longer a d) d × (longer a d ≡ a)))
   front_of whole a d s t = dite (dec_le (length a) (length d))
       (λ le. let p = prefix_le a d s.0 t.0 (sym s.1 ∙ t.1) le in let is = longer_right a d p in
@@ -91,6 +92,10 @@ module _ {O E B : Type 0} (base : O → B) (history : O → List E) (by : E → 
       λ seat u t su tu same. none_some t (sym (ap ticket_of idle') ∙ (ap (λ (z : K). ticket_of z.stage) (some-injective w u (sym at_w ∙ (ap (get_elem? s.views) (sym same) ∙ su))) ∙ tu)) in
       let stays : (seat : ℕ) (u : K) (t : ℕ) → get_elem? s.views seat ≡ some u → ticket_of u.stage ≡ Some t → get_elem? (set vs other spent) seat ≡ some u =
       λ seat u t su tu. set_else vs other seat spent (not_w seat u t su tu) ∙ (set_else s.views id seat both (not_v seat u t su tu) ∙ su) in
+      let seen_both : StartsWith r.whole both.front = ⊎_elim (λ t. subst (StartsWith r.whole) (sym t.1.0) theirs.seen) (λ t. subst (StartsWith r.whole) (sym t.1) mine.seen) f.1 in
+      let begins_w : StartsWith both.front w.front = ⊎_elim (λ t. t.0) (λ t. t.0) f.1 in
+      let kept_long : StartsWith both.front r.whole → Longest base history by lawful (set vs other spent) r.whole =
+      λ starts. (id, both, set_else vs other id spent (λ same. apart (sym same)) ∙ set_here s.views id both (at_length base history by lawful s.views id v at), subst IsLive (sym idle) tt, same_history r.whole both.front seen_both starts) in
       let P : ℕ → K → Type 0 = Each base history by lawful b s r.served r.drawn r.holder_of r.whole in
       record {
         drawn = r.drawn;
@@ -109,10 +114,10 @@ module _ {O E B : Type 0} (base : O → B) (history : O → List E) (by : E → 
             (each_set base history by lawful P P s.views id both
             (λ _. record {
               based = mine.based;
-              seen = ⊎_elim (λ t. subst (StartsWith r.whole) (sym t.1.0) theirs.seen) (λ t. subst (StartsWith r.whole) (sym t.1) mine.seen) f.1;
+              seen = seen_both;
               law = ⊎_elim (λ t. subst (lawful b) (sym t.1.0) theirs.law) (λ t. subst (lawful b) (sym t.1) mine.law) f.1;
               owns = λ c n. let o = mine.owns c n in (o.0, ⊎_elim (λ t. ap (own_entries by c 1) t.1.0 ∙ own_between by c r.whole w.front v.front v.mine theirs.seen t.1.1 o.0 o.1) (λ t. ap (own_entries by c 1) t.1 ∙ o.1) f.1, o.2);
-              kept = (f.0, (⊎_elim (λ t. t.0) (λ t. t.0) f.1, tt));
+              kept = (f.0, (begins_w, tt));
               nameless = mine.nameless;
               stands = subst (Stands r.served r.drawn r.holder_of r.whole v.caller id) (sym idle) tt;
             })
@@ -125,11 +130,18 @@ module _ {O E B : Type 0} (base : O → B) (history : O → List E) (by : E → 
             (λ (t : (j ≡ other) × (spent ≡ x)). absurd (none_some c (ap (λ (u : K). u.caller) t.1 ∙ n)))
             (λ (t : (j ≢ other) × (get_elem? vs j ≡ some x)). below_set base history by lawful s.views id v both at refl r.below j x c t.1 n) (at_set vs other j spent x jx);
         line = λ t from under. let l = r.line t from under in (l.0, stays (r.holder_of t) l.0 t l.1 l.2, l.2);
+        longest = dite (ℕ_discrete r.longest.0 id)
+            (λ e. let is : v ≡ r.longest.1 = some-injective v r.longest.1 (sym at ∙ (ap (get_elem? s.views) (sym e) ∙ r.longest.2)) in
+            kept_long (subst (StartsWith both.front) (ap (λ (u : K). u.front) is ∙ r.longest.4) f.0))
+            (λ ne. dite (ℕ_discrete r.longest.0 other)
+            (λ e. let is : w ≡ r.longest.1 = some-injective w r.longest.1 (sym at_w ∙ (ap (get_elem? s.views) (sym e) ∙ r.longest.2)) in
+            kept_long (subst (StartsWith both.front) (ap (λ (u : K). u.front) is ∙ r.longest.4) begins_w))
+            (λ no_w. (r.longest.0, r.longest.1, set_else vs other r.longest.0 spent no_w ∙ (set_else s.views id r.longest.0 both ne ∙ r.longest.2), r.longest.3, r.longest.4)));
         away = λ gone. let a = r.away gone in (a.0, a.1, a.2, stays (r.holder_of r.served) a.0 a.1 a.3 (ap ticket_of a.4), a.4);
         home = r.home;
       }
 
-  -- K7: what was taken in begins the front
+  -- tell: what was taken in begins the front
   pub tells : (b : B) (id : ℕ) (m : M) → m.0.stage ≡ Idle → Allows (Held b) 1 id m 1 (λ n. n) (Tells by lawful (step 1 1 0 0 none) m)
   tells b id m idle s r long at small =
       let v : K = m.0 in let w : K = forgetting v in let mine = r.each id v at (subst IsLive (sym idle) tt) in
@@ -156,6 +168,7 @@ module _ {O E B : Type 0} (base : O → B) (history : O → List E) (by : E → 
           apart = apart_set base history by lawful s.views id v w at refl r.apart;
           below = below_set base history by lawful s.views id v w at refl r.below;
           line = λ t from under. let l = r.line t from under in (l.0, set_else s.views id (r.holder_of t) w (not_v (r.holder_of t) l.0 t l.1 l.2) ∙ l.1, l.2);
+          longest = longest_set base history by lawful s.views id v w r.whole at (subst IsLive (sym idle) tt) refl r.longest;
           away = λ gone. let a = r.away gone in (a.0, a.1, a.2, set_else s.views id (r.holder_of r.served) w (not_v (r.holder_of r.served) a.0 a.1 a.3 (ap ticket_of a.4)) ∙ a.3, a.4);
           home = r.home;
         },
@@ -166,7 +179,7 @@ module _ {O E B : Type 0} (base : O → B) (history : O → List E) (by : E → 
   all_below_more n [] all = tt
   all_below_more n (x ∷ xs) all = let l = all.0 in (omega arith, all_below_more n xs all.1)
 
-  -- K8: the seat takes the number that it found for its caller
+  -- name: the seat takes the number that it found for its caller
   pub names : (b : B) (id : ℕ) (m : M) (n : ℕ) → m.0.stage ≡ Idle → m.0.caller ≡ None → n < 4611686018427387904 → Allows (Held b) 1 id m 2 (λ x. either (eqb x n) (n + 1) x) (Takes by (step 1 2 n (n + 1) none) m)
   names b id m n idle nameless_is few s r long at small =
       let v : K = m.0 in let x : ℕ = get_or s.words 2 0 in let w : K = named_as v x in let mine = r.each id v at (subst IsLive (sym idle) tt) in let wide = r.wide in
@@ -222,6 +235,7 @@ module _ {O E B : Type 0} (base : O → B) (history : O → List E) (by : E → 
               (λ (t : (j ≢ id) × (get_elem? s.views j ≡ some a)). let l = r.below j a c t.1 ca in omega arith)
               (at_set s.views id j w a ja));
           line = λ t from under. let l = r.line t from under in (l.0, set_else s.views id (r.holder_of t) w (not_v (r.holder_of t) l.0 t l.1 l.2) ∙ l.1, l.2);
+          longest = longest_set base history by lawful s.views id v w r.whole at (subst IsLive (sym idle) tt) refl r.longest;
           away = λ gone. let a = r.away gone in (a.0, a.1, a.2, set_else s.views id (r.holder_of r.served) w (not_v (r.holder_of r.served) a.0 a.1 a.3 (ap ticket_of a.4)) ∙ a.3, a.4);
           home = r.home;
         },
@@ -237,7 +251,7 @@ module _ {O E B : Type 0} (base : O → B) (history : O → List E) (by : E → 
         ((λ hit. absurd (miss hit)), λ _. refl),
       ))
 
-  -- the slot is given back, and the turn is kept
+  -- shut: the slot is given back, and the turn is kept
   pub shuts : (b : B) (id : ℕ) (m : M) (t : ℕ) (h : List E) (o : O) → m.0.stage ≡ Holds t h → m.1 ≡ (0, Some o) ∷ [] → history o ≡ h → base o ≡ m.0.base
       → Allows (Held b) 1 id m 1 (λ n. n) (Shuts (step 1 1 0 0 none) m)
   shuts b id m t h o holds held same_history based s r long at small =
@@ -270,6 +284,7 @@ module _ {O E B : Type 0} (base : O → B) (history : O → List E) (by : E → 
               (λ ne. let l = r.line u from under in
               let other : r.holder_of u ≢ id = λ same. ne (ap number (sym l.2 ∙ (ap (λ (x : K). ticket_of x.stage) (some-injective l.0 v (sym l.1 ∙ (ap (get_elem? s.views) same ∙ at))) ∙ ap ticket_of holds))) in
               (l.0, set_else s.views id (r.holder_of u) w other ∙ l.1, l.2));
+          longest = longest_set base history by lawful s.views id v w r.whole at tt refl r.longest;
           away = λ e. absurd (subst is_on (sym e) tt);
           home = λ _. (o, ap (λ hs. get_elem? hs 0) homes ∙ set_here s.homes 0 (some (Some o)) (omega arith), based ∙ mine.based, same_history ∙ k.4);
         },
@@ -311,6 +326,7 @@ module _ {O E B : Type 0} (base : O → B) (history : O → List E) (by : E → 
         apart = λ i j x y c ix jy cx cy. let a = only v x i ix in let d = only v y j jy in a.0 ∙ sym d.0;
         below = λ j x c there n. let is = only v x j there in let same : top ≡ c = ap number (ap (λ (z : K). z.caller) is.1 ∙ n) in omega arith;
         line = λ t from under. absurd (omega arith);
+        longest = (0, v, refl, tt, refl);
         away = λ e. absurd (subst is_on (sym e) tt);
         home = λ _. (o, refl, refl, refl);
       }

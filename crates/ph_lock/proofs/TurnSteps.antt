@@ -147,7 +147,17 @@ module _ {O E B : Type 0} (base : O → B) (history : O → List E) (by : E → 
       (λ (t : (j ≢ id) × (get_elem? vs j ≡ some v)). others j v t.0 (all j v t.1))
       (at_set vs id j w v at)
 
-  -- K1: the seat draws a ticket
+  -- the longest front stays where a seat that changes keeps its front
+  abbrev pub Longest : List K → List E → Type 0
+  Longest vs whole = (seat : ℕ) × (u : K) × (get_elem? vs seat ≡ some u) × IsLive u.stage × (u.front ≡ whole)
+
+  pub longest_set : (vs : List K) (id : ℕ) (v w : K) (whole : List E) → get_elem? vs id ≡ some v → IsLive w.stage → w.front ≡ v.front → Longest vs whole → Longest (set vs id w) whole
+  longest_set vs id v w whole at lives same l = dite (ℕ_discrete l.0 id)
+      (λ e. let is : v ≡ l.1 = some-injective v l.1 (sym at ∙ (ap (get_elem? vs) (sym e) ∙ l.2)) in
+      (id, w, set_here vs id w (at_length vs id v at), lives, same ∙ (ap (λ (u : K). u.front) is ∙ l.4)))
+      (λ ne. (l.0, l.1, set_else vs id l.0 w ne ∙ l.2, l.3, l.4))
+
+  -- draw: the seat draws a ticket
   further : (n : ℕ) → (n % 18446744073709551616 + 1) % 18446744073709551616 ≡ suc n % 18446744073709551616
   further n = omega arith
 
@@ -206,6 +216,7 @@ module _ {O E B : Type 0} (base : O → B) (history : O → List E) (by : E → 
               (λ e. (w, ap (get_elem? (set s.views id w)) (ap (redrawn r.holder_of d id) e ∙ redrawn_hit r.holder_of d id) ∙ set_here s.views id w (at_length s.views id v at), ap (λ (n : ℕ). Some n) (sym e)))
               (λ ne. let l = r.line t from (omega arith) in
               (l.0, ap (get_elem? (set s.views id w)) (redrawn_miss r.holder_of d id t ne) ∙ (set_else s.views id (r.holder_of t) w (apart_of t l.0 l.1 l.2) ∙ l.1), l.2));
+          longest = longest_set s.views id v w r.whole at tt refl r.longest;
           away = λ gone. let a = r.away gone in let f = r.each (r.holder_of r.served) a.0 a.3 (subst IsLive (sym a.4) tt) in
               let k = subst (Stands r.served d r.holder_of r.whole a.0.caller (r.holder_of r.served)) a.4 f.stands in let is = k.0 in let below = k.1 in
               let ticket : ticket_of a.0.stage ≡ Some r.served = ap ticket_of a.4 ∙ ap (λ (n : ℕ). Some n) is in
@@ -215,7 +226,7 @@ module _ {O E B : Type 0} (base : O → B) (history : O → List E) (by : E → 
         (d, r.ticket_word, refl),
       )
 
-  -- K2: the seat sees which ticket is served, and where that is its own it takes the object
+  -- turn: the seat sees which ticket is served, and where that is its own it takes the object
   module _ (b : B) (id : ℕ) (m : M) (t : ℕ) (waits : m.0.stage ≡ Waits t) (none_held : m.1 ≡ []) where
     turns_miss : (s : St) → Held b s → get_elem? s.views id ≡ some m.0 → get_or s.words 1 0 ≢ t % 18446744073709551616
         → (w : K) × (a : Act (Option O)) × Valid s.homes m.1 a × Held b (stepped s 1 (get_or s.words 1 0) id m.1 w a) × Turns base history by lawful (step 1 1 0 0 none) m (get_or s.words 1 0) (w, carried_after m.1 a)
@@ -269,6 +280,7 @@ module _ {O E B : Type 0} (base : O → B) (history : O → List E) (by : E → 
                 (λ ne. let l = r.line u from below in
                 let other : r.holder_of u ≢ id = λ same. ne (ap number (sym l.2 ∙ (ap (λ (x : K). ticket_of x.stage) (some-injective l.0 v (sym l.1 ∙ (ap (get_elem? s.views) same ∙ at))) ∙ ap ticket_of waits))) in
                 (l.0, set_else s.views id (r.holder_of u) w other ∙ l.1, l.2));
+            longest = longest_set s.views id v w r.whole at tt refl r.longest;
             away = λ _. (w, t, history o.0, ap (get_elem? (set s.views id w)) place ∙ here, refl);
             home = λ e. absurd (subst is_on e tt);
           },
@@ -298,7 +310,7 @@ module _ {O E B : Type 0} (base : O → B) (history : O → List E) (by : E → 
         turns_hit r.out s r at hit now (ap r.holder_of now ∙ k.2) long refl)
         (λ miss. turns_miss s r at miss)
 
-  -- K3 and K4: the seat gives the turn back
+  -- leave: the seat gives the turn back
   left_stands : (served d id : ℕ) (f : ℕ → ℕ) (whole after : List E) (caller : Option ℕ) (j : ℕ) (st : Stage E) → j ≢ id → f served ≡ id
       → Stands served d f whole caller j st → Stands (suc served) d f after caller j st
   left_stands served d id f whole after caller j Idle ne place k = tt
@@ -368,6 +380,7 @@ module _ {O E B : Type 0} (base : O → B) (history : O → List E) (by : E → 
               let other : r.holder_of u ≢ id = λ same.
               let is : u ≡ t = ap number (sym l.2 ∙ (ap (λ (x : K). ticket_of x.stage) (some-injective l.0 v (sym l.1 ∙ (ap (get_elem? s.views) same ∙ at))) ∙ ap ticket_of holds)) in omega arith in
               (l.0, set_else s.views id (r.holder_of u) w other ∙ l.1, l.2);
+          longest = (id, w, set_here s.views id w (at_length s.views id v at), tt, refl);
           away = λ e. absurd (subst is_on (sym e) tt);
           home = λ _. (o, ap (λ hs. get_elem? hs 0) homes ∙ set_here s.homes 0 (some (Some o)) (omega arith), based ∙ mine.based, refl);
         },

@@ -67,8 +67,9 @@ module _ {O E B : Type 0} (base : O → B) (history : O → List E) (by : E → 
   abbrev pub AtHome : B → List E → List (Maybe (Option O)) → Type 0
   AtHome b whole homes = (object : O) × (get_elem? homes 0 ≡ some (some (Some object))) × (base object ≡ b) × (history object ≡ whole)
 
-  -- where the object is: at home, and the longest front is its history; or out with the seat whose ticket is served. What a seat with the turn has noted is the longest front
+  -- where the object is: at home, with the longest front for its history; or out with the seat whose ticket is served. What a seat with the turn has noted is the longest front
   pub record Object (s : State (Option O) (Knowledge E B)) (b : B) (whole : List E) (turn : ℕ) (out : Bool) : Type 0 where
+    pub longest : (seat : ℕ) × (view : Knowledge E B) × (get_elem? s.views seat ≡ some view) × IsLive view.stage × (view.front ≡ whole)
     pub home : out ≡ false → AtHome b whole s.homes
     pub away : out ≡ true → (view : Knowledge E B) × (t : ℕ) × (h : List E) × (get_elem? s.views turn ≡ some view) × (view.stage ≡ Holds t h)
     pub noted : Each s.views (λ _ view. (h : List E) → noted_of view.stage ≡ Some h → h ≡ whole)

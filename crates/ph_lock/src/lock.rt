@@ -37,8 +37,8 @@ impl<O: Object> Lock<O> {
     pub fn new(alloc: Global, object: O) -> Result<(Lock<O>, Pass<O>), (O, NoMemory)>
         requires callers { O.top object < 2 ^ 62 }
         requires lawful { O.lawful (O.base object) (O.history object) }
-        ensures pass { IfOk result (λ made. made.1 ≡ record { lock = made.0; base = O.base object; caller = O.top object; front = O.history object; mine = [] }) }
-        ensures lawful { IfOk result (λ made. IsPass O.by O.lawful made.1) }
+        ensures first { IfOk result (λ made. made.1 ≡ record { lock = made.0; base = O.base object; caller = O.top object; front = O.history object; mine = [] }) }
+        ensures pass { IfOk result (λ made. IsPass O.by O.lawful made.1) }
         ensures err { IfErr result (λ refused. refused.0 ≡ object) }
     {
         let caller = object.callers();
@@ -67,6 +67,7 @@ impl<O: Object> Lock<O> {
         requires allowed { O.allows pass.old.base pass.old.front pass.old.caller act }
         ensures same { SamePass pass.old pass.new }
         ensures pass { IsPass O.by O.lawful pass.new }
+        ensures front { StartsWith pass.new.front pass.old.front }
         ensures ok { IfOk result (λ answer. Entered O.by O.deed O.deed_of O.answers O.full pass.old pass.new act answer) }
         ensures err { IfErr result (λ refused. (refused.0 ≡ act) × OnlySaw pass.old pass.new) }
         ensures still { IfErr result (λ _. O.allows pass.new.base pass.new.front pass.new.caller act) }

@@ -1,6 +1,6 @@
 use Rattle.std.proofs.Common.{◌≡◌, sym, subst, ap, ◌∙◌, Some}
 use Rattle.ph_lock.specs.Histories.{StartsWith}
-use Rattle.ph_lock.proofs.Acts.{still_allowed, history_of, entered, refused}
+use Rattle.ph_lock.proofs.Acts.{still_allowed, history_of, begins_with, entered, refused}
 use Rattle.ph_lock.proofs.lock.Lock.act.Goals as goal
 
 pub apply-answer-requires-clause-allowed : goal.apply-answer-requires-clause-allowed
@@ -56,3 +56,15 @@ returns-clause-still g c =
     (still_allowed o.base o.history o.by o.lawful o.allows g.met.O.Object.stays inside.seat.me.0 pass object c.args.act (c.pass.invariant.named ∙ ap (λ n. Some n) name) (ap (λ p. p.base) is) (ap (λ p. p.front) is) found c.requires.allowed) in
     refused o.by o.deed o.deed_of o.answers o.full (o.base object) (o.history object) (o.history c.apply-answer.new.self) inside.caller c.args.act c.apply-answer.result _ (λ b h. o.allows b h inside.caller c.args.act) _ _
     (ap (λ m. m.0.base) left ∙ (ap (λ m. m.0.base) turn.1 ∙ sym found.base_is)) (ap (λ m. m.0.front) left) allowed applied.err
+
+pub returns-clause-front : goal.returns-clause-front
+returns-clause-front g c =
+    let o = g.O.Object in
+    let object = c.enter-object.result in
+    let found = c.enter-object.ensures.found in
+    let after = o.history c.apply-answer.new.self in
+    let pass = c.args.pass.now in
+    let applied = c.apply-answer.ensures in
+    let seen = subst (StartsWith (o.history object)) (ap (λ p. p.front) c.pass.view_is) found.seen in
+    subst (λ l. StartsWith l pass.front) (sym (ap (λ m. m.0.front) c.leave.ensures.left))
+    (begins_with o.by o.deed o.deed_of o.answers o.full (o.base object) (o.history object) after c.pass.inside.caller c.args.act c.apply-answer.result _ pass.front seen applied.ok applied.err)

@@ -18,8 +18,8 @@ invariant_of-result-in-Ok-new g c =
     first_seat o.by o.lawful c.in-Ok-new.seat.me (o.base c.of.result.value) c.callers-caller.result (o.history c.of.result.value) (search rules) (search rules)
     (subst (λ x. o.lawful (o.base x) (o.history x)) same c.requires.lawful) (subst (λ x. AllBelow o.by c.callers-caller.result (o.history x)) same c.callers-caller.ensures.above)
 
-pub returns-in-Ok-new-clause-lawful : goal.returns-in-Ok-new-clause-lawful
-returns-in-Ok-new-clause-lawful g c =
+pub returns-in-Ok-new-clause-pass : goal.returns-in-Ok-new-clause-pass
+returns-in-Ok-new-clause-pass g c =
     let o = g.O.Object in
     let same : c.args.object ≡ c.of.result.value = sym c.of.ensures in
     let seat = first_seat o.by o.lawful c.in-Ok-new.seat.me (o.base c.of.result.value) c.callers-caller.result (o.history c.of.result.value) (search rules) (search rules)
