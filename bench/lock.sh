@@ -16,7 +16,7 @@ looks="50"
 build=$(mktemp -d)
 trap 'rm -rf "$build"' EXIT
 rustc -C opt-level=3 -C target-cpu=x86-64-v2 -o "$build/stock" bench/lock_stock.rs
-(cd crates/lock_bench && rt run >/dev/null 2>&1)
+(cd crates/lock_bench && rt run >"$build/log" 2>&1) || { tail "$build/log"; exit 1; }
 ours=crates/lock_bench/out/lock_bench
 
 # milliseconds that a command takes
