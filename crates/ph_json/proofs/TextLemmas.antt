@@ -12,17 +12,8 @@ use Rattle.serde_json.proofs.Views.{view-Array, view-Object}
 use Rattle.serde_json.specs.View.{view, items_of, members_view}
 use Rattle.serde_json.specs.declared.value.Value.{Value, Array as ArrayValue, Object as ObjectValue}
 use Rattle.serde_json.specs.Written.{compact_text, items_text, members_text, has_float, items_have_float, members_have_float}
-use Rattle.ph_json.specs.declared.doc.Doc.{Doc, the_lemmas}
-use Rattle.ph_json.specs.declared.doc.Doc.TheOpen.{Doc-F}
-use Rattle.ph_json.specs.declared.doc.Doc.TheVariants.{List as ListDoc, Object as ObjectDoc}
-use Rattle.ph_json.specs.Text.{text_of, text_step, by_key, member_of, member_text}
+use Rattle.ph_json.specs.Text.{by_key, member_text}
 use Rattle.ph_json.specs.Written.{written_members}
-
-pub text_of-List : (docs : List Doc) → text_of (ListDoc docs) ≡ text_step (Doc-F.List (map text_of docs))
-text_of-List docs = search (rules, the_lemmas)
-
-pub text_of-Object : (members : List (List ℕ × Doc)) → text_of (ObjectDoc members) ≡ text_step (Doc-F.Object (map member_of members))
-text_of-Object members = search (rules, the_lemmas)
 
 items_text-cons : (d : Data) (ds : List Data) → compact_text d ++ items_text true (items_of ds) ≡ join_with_byte 44 (map compact_text (d ∷ ds)) ++ 93 ∷ []
 items_text-cons d [] = refl

@@ -1,5 +1,5 @@
 -- The JSON text of a document (RFC 8259).
-use Rattle.std.specs.Prelude.{ℕ, List, [], ◌∷◌, ◌++◌, true, false, map, fold, codes}
+use Rattle.std.specs.Prelude.{ℕ, List, [], ◌++◌, true, false, map, fold, codes}
 use Rattle.std.specs.Cmp.Lexicographic.{slice_cmp}
 use Rattle.std.specs.Fmt.{signed_decimal}
 use Rattle.std.specs.List.{join_with_byte}

@@ -5,17 +5,18 @@ use ph_base::{Bytes, NoMemory};
 use sqlite_items::Items;
 use std::alloc::Global;
 
-/// A JSON document. Numbers are whole, and an object's members stand in the order in which they
-/// were put; its text sorts them.
+/// A JSON document (RFC 8259) whose numbers are whole.
+///
+/// A text is in UTF-8: in the written text each byte sequence that isn't becomes U+FFFD, as in std's
+/// `from_utf8_lossy`. An object is a list of pairs of a key and its value, in any order: the written text has
+/// each key once, in byte order, and of equal keys the last one counts.
 #[derive(Drop)]
 pub enum Doc {
     Null,
     Truth(bool),
     Number(i64),
-    /// A text in UTF-8; other bytes are written as std's `from_utf8_lossy` reads them.
     Text(Bytes),
     List(Items<Doc>),
-    /// Pairs of a key and its value. Of equal keys the last one counts.
     Object(Items<(Bytes, Doc)>),
 }
 
@@ -25,5 +26,12 @@ impl Doc {
         ensures { IfOk result (λ doc. doc ≡ Doc.Text bytes.now) }
     {
         Ok(Doc::Text(Bytes::from_slice(alloc, bytes)?))
+    }
+
+    /// The list of these documents. It takes no memory.
+    pub fn list(docs: Vec<Doc>) -> Doc
+        ensures { result ≡ Doc.List docs.items }
+    {
+        Doc::List(Items::from_vec(docs))
     }
 }

@@ -8,3 +8,6 @@ mod writer;
 pub use doc::Doc;
 pub use members::Members;
 pub use writer::text;
+
+#[cfg(test)]
+mod tests;

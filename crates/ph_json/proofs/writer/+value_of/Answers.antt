@@ -1,12 +1,11 @@
-use Rattle.std.proofs.Common.{◌≡◌, ◌∷◌, [], ◌++◌, List, ℕ, map, take, false, sym, ap, subst, ◌∙◌}
+use Rattle.std.proofs.Common.{◌≡◌, ◌∷◌, [], map, take, false, sym, ap, subst, ◌∙◌}
 use Rattle.std.proofs.lemmas.List.{map_more, map-append}
-use Rattle.std.specs.Str.Lossy.{utf8_lossy}
-use Rattle.serde_json.specs.Data.{put}
-use Rattle.serde_json.specs.View.{items_of, members_view, items_view, view}
+use Rattle.serde_json.specs.View.{items_of, members_view, view}
 use Rattle.serde_json.specs.Written.{compact_text, items_have_float, members_have_float}
 use Rattle.ph_json.specs.Text.{text_of, member_of, by_key}
 use Rattle.ph_json.specs.Written.{written_members}
-use Rattle.ph_json.proofs.TextLemmas.{list_text, sorted_text, text_of-List, text_of-Object, array_text, map_text, written_members-more, members_have_float-put, items_have_float-more}
+use Rattle.ph_json.proofs.TextEquations.{text_of-List, text_of-Object}
+use Rattle.ph_json.proofs.TextLemmas.{list_text, sorted_text, array_text, map_text, written_members-more, members_have_float-put, items_have_float-more}
 use Rattle.ph_json.proofs.writer.+value_of.Goals as goal
 
 pub value_of-returns-in_ok-values_of-in-List-clause-text :
