@@ -42,9 +42,9 @@ bare_text : (message kind : List ℕ) → is_plain message ≡ true → is_plain
 unfolding is_plain_byte escape_byte
 bare_text message kind h k =
     object_text ((codes "message", Text message) ∷ (codes "type", Text kind) ∷ []) ((codes "message", text_of (Text message)) ∷ (codes "type", text_of (Text kind)) ∷ [])
-        (by_key-plain ((codes "message", text_of (Text message)) ∷ (codes "type", text_of (Text kind)) ∷ []) refl)
+    (by_key-plain ((codes "message", text_of (Text message)) ∷ (codes "type", text_of (Text kind)) ∷ []) refl)
     ∙ rw (text_text message h, text_text kind k)
-        (ap (λ rest. codes "{\"message\":\"" ++ rest) (behind_last message (codes ",\"type\":\"") kind (codes "}")))
+    (ap (λ rest. codes "{\"message\":\"" ++ rest) (behind_last message (codes ",\"type\":\"") kind (codes "}")))
 
 -- a code, a message and a type
 coded_text : (code message kind : List ℕ) → is_plain code ≡ true → is_plain message ≡ true → is_plain kind ≡ true
@@ -53,12 +53,12 @@ coded_text : (code message kind : List ℕ) → is_plain code ≡ true → is_pl
 unfolding is_plain_byte escape_byte
 coded_text code message kind i h k =
     object_text ((codes "code", Text code) ∷ (codes "message", Text message) ∷ (codes "type", Text kind) ∷ [])
-        ((codes "code", text_of (Text code)) ∷ (codes "message", text_of (Text message)) ∷ (codes "type", text_of (Text kind)) ∷ [])
-        (by_key-plain ((codes "code", text_of (Text code)) ∷ (codes "message", text_of (Text message)) ∷ (codes "type", text_of (Text kind)) ∷ []) refl)
+    ((codes "code", text_of (Text code)) ∷ (codes "message", text_of (Text message)) ∷ (codes "type", text_of (Text kind)) ∷ [])
+    (by_key-plain ((codes "code", text_of (Text code)) ∷ (codes "message", text_of (Text message)) ∷ (codes "type", text_of (Text kind)) ∷ []) refl)
     ∙ rw (text_text code i, text_text message h, text_text kind k)
-        (ap (λ rest. codes "{\"code\":\"" ++ rest)
-            (behind code (codes ",\"message\":\"") ((message ++ 34 ∷ []) ++ (codes ",\"type\":\"" ++ (kind ++ 34 ∷ []))) (codes "}")
-            ∙ ap (λ rest. code ++ 34 ∷ (codes ",\"message\":\"" ++ rest)) (behind_last message (codes ",\"type\":\"") kind (codes "}"))))
+    (ap (λ rest. codes "{\"code\":\"" ++ rest)
+    (behind code (codes ",\"message\":\"") ((message ++ 34 ∷ []) ++ (codes ",\"type\":\"" ++ (kind ++ 34 ∷ []))) (codes "}")
+    ∙ ap (λ rest. code ++ 34 ∷ (codes ",\"message\":\"" ++ rest)) (behind_last message (codes ",\"type\":\"") kind (codes "}"))))
 
 pub malformed_body : body_of (error_of Malformed) None ≡ codes "{\"error\":{\"message\":\"Malformed request.\",\"type\":\"invalid_request_error\"}}"
 unfolding body_of reasons_of subjects_of error_of is_plain_byte escape_byte

@@ -1,5 +1,5 @@
 -- The body of an error.
-use Rattle.std.specs.Prelude.{ℕ, List, [], ◌∷◌, ◌++◌, Option, Some, None, option_map, codes}
+use Rattle.std.specs.Prelude.{ℕ, List, [], ◌∷◌, ◌++◌, Option, option_map, codes}
 use Rattle.ph_json.specs.declared.doc.Doc.{Doc}
 use Rattle.ph_json.specs.declared.doc.Doc.TheVariants.{Text, Object}
 use Rattle.ph_json.specs.Text.{text_of}

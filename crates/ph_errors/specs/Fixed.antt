@@ -1,5 +1,5 @@
 -- The errors whose bodies are fixed bytes.
-use Rattle.std.specs.Prelude.{ℕ, Option, Some, None, Bool, ◌==◌, if◌then◌else◌}
+use Rattle.std.specs.Prelude.{ℕ, Option, Some, None, ◌==◌, if◌then◌else◌}
 use Rattle.ph_errors.specs.declared.fixed.Fixed.{Fixed}
 use Rattle.ph_errors.specs.declared.fixed.Fixed.TheVariants as fixed
 use Rattle.ph_errors.specs.Table.{Problem, AcquirerPending, AcquirerFailed, NoMemory, HistoryFull, Malformed, BodyTooLarge, HeadTooLarge, NotImplemented, VersionNotSupported}

@@ -27,7 +27,13 @@ impl ApiError {
     ghost use Rattle.ph_errors.specs.Table.{bare};
 
     // An error with a type, a code and a message alone.
-    pub(crate) fn bare(alloc: Global, status: u16, kind: ErrorKind, code: Option<Code>, message: &str) -> Result<ApiError, NoMemory>
+    pub(crate) fn bare(
+        alloc: Global,
+        status: u16,
+        kind: ErrorKind,
+        code: Option<Code>,
+        message: &str,
+    ) -> Result<ApiError, NoMemory>
         ensures { IfOk result (λ error. error ≡ bare status kind code message.now) }
     {
         Ok(ApiError {

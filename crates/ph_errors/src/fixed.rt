@@ -68,15 +68,24 @@ impl Fixed {
         ensures { result.now ≡ body_of (error_of (problem_of self)) None }
     {
         match self {
-            Fixed::AcquirerPending => "{\"error\":{\"code\":\"acquirer_pending\",\"message\":\"The acquirer has not answered yet.\",\"type\":\"api_error\"}}",
-            Fixed::AcquirerFailed => "{\"error\":{\"code\":\"acquirer_failed\",\"message\":\"The acquirer could not be reached.\",\"type\":\"api_error\"}}",
-            Fixed::NoMemory => "{\"error\":{\"code\":\"no_memory\",\"message\":\"Out of memory.\",\"type\":\"api_error\"}}",
-            Fixed::HistoryFull => "{\"error\":{\"code\":\"history_full\",\"message\":\"The history is full.\",\"type\":\"api_error\"}}",
-            Fixed::Malformed => "{\"error\":{\"message\":\"Malformed request.\",\"type\":\"invalid_request_error\"}}",
-            Fixed::BodyTooLarge => "{\"error\":{\"message\":\"Body too large.\",\"type\":\"invalid_request_error\"}}",
-            Fixed::HeadTooLarge => "{\"error\":{\"message\":\"Head too large.\",\"type\":\"invalid_request_error\"}}",
-            Fixed::NotImplemented => "{\"error\":{\"message\":\"Not implemented.\",\"type\":\"invalid_request_error\"}}",
-            Fixed::VersionNotSupported => "{\"error\":{\"message\":\"HTTP version not supported.\",\"type\":\"invalid_request_error\"}}",
+            Fixed::AcquirerPending =>
+                "{\"error\":{\"code\":\"acquirer_pending\",\"message\":\"The acquirer has not answered yet.\",\"type\":\"api_error\"}}",
+            Fixed::AcquirerFailed =>
+                "{\"error\":{\"code\":\"acquirer_failed\",\"message\":\"The acquirer could not be reached.\",\"type\":\"api_error\"}}",
+            Fixed::NoMemory =>
+                "{\"error\":{\"code\":\"no_memory\",\"message\":\"Out of memory.\",\"type\":\"api_error\"}}",
+            Fixed::HistoryFull =>
+                "{\"error\":{\"code\":\"history_full\",\"message\":\"The history is full.\",\"type\":\"api_error\"}}",
+            Fixed::Malformed =>
+                "{\"error\":{\"message\":\"Malformed request.\",\"type\":\"invalid_request_error\"}}",
+            Fixed::BodyTooLarge =>
+                "{\"error\":{\"message\":\"Body too large.\",\"type\":\"invalid_request_error\"}}",
+            Fixed::HeadTooLarge =>
+                "{\"error\":{\"message\":\"Head too large.\",\"type\":\"invalid_request_error\"}}",
+            Fixed::NotImplemented =>
+                "{\"error\":{\"message\":\"Not implemented.\",\"type\":\"invalid_request_error\"}}",
+            Fixed::VersionNotSupported =>
+                "{\"error\":{\"message\":\"HTTP version not supported.\",\"type\":\"invalid_request_error\"}}",
         }
     }
 }

@@ -2,7 +2,6 @@
 #![tactic(auto)]
 
 mod api_error;
-
 mod fixed;
 mod kinds;
 mod payments;
@@ -11,7 +10,10 @@ mod reply_body;
 mod requests;
 
 pub use api_error::ApiError;
-pub use reply_body::{body, error_doc};
 pub use fixed::Fixed;
 pub use kinds::{Code, ErrorKind, decline_code};
 pub use refusal::Refusal;
+pub use reply_body::{body, error_doc};
+
+#[cfg(test)]
+mod tests;

@@ -13,7 +13,13 @@ impl ApiError {
     pub fn no_such_object(alloc: Global, param: &[u8]) -> Result<ApiError, NoMemory>
         ensures { IfOk result (λ error. error ≡ error_of (NoSuchObject param.now)) }
     {
-        let error = ApiError::bare(alloc, 404, ErrorKind::InvalidRequestError, Some(Code::ResourceMissing), "No such object.")?;
+        let error = ApiError::bare(
+            alloc,
+            404,
+            ErrorKind::InvalidRequestError,
+            Some(Code::ResourceMissing),
+            "No such object.",
+        )?;
         error.about(alloc, param)
     }
 
@@ -21,14 +27,26 @@ impl ApiError {
     pub fn unexpected_state(alloc: Global) -> Result<ApiError, NoMemory>
         ensures { IfOk result (λ error. error ≡ error_of UnexpectedState) }
     {
-        ApiError::bare(alloc, 400, ErrorKind::InvalidRequestError, Some(Code::PaymentIntentUnexpectedState), "The status of this PaymentIntent does not allow this.")
+        ApiError::bare(
+            alloc,
+            400,
+            ErrorKind::InvalidRequestError,
+            Some(Code::PaymentIntentUnexpectedState),
+            "The status of this PaymentIntent does not allow this.",
+        )
     }
 
     /// A refund of a charge that hasn't been captured.
     pub fn charge_not_captured(alloc: Global) -> Result<ApiError, NoMemory>
         ensures { IfOk result (λ error. error ≡ error_of ChargeNotCaptured) }
     {
-        let error = ApiError::bare(alloc, 400, ErrorKind::InvalidRequestError, None, "The charge has not been captured.")?;
+        let error = ApiError::bare(
+            alloc,
+            400,
+            ErrorKind::InvalidRequestError,
+            None,
+            "The charge has not been captured.",
+        )?;
         error.about(alloc, b"charge")
     }
 
@@ -36,7 +54,13 @@ impl ApiError {
     pub fn dispute_closed(alloc: Global) -> Result<ApiError, NoMemory>
         ensures { IfOk result (λ error. error ≡ error_of DisputeClosed) }
     {
-        let error = ApiError::bare(alloc, 400, ErrorKind::InvalidRequestError, None, "The dispute is closed.")?;
+        let error = ApiError::bare(
+            alloc,
+            400,
+            ErrorKind::InvalidRequestError,
+            None,
+            "The dispute is closed.",
+        )?;
         error.about(alloc, b"id")
     }
 
@@ -44,21 +68,39 @@ impl ApiError {
     pub fn charge_already_refunded(alloc: Global) -> Result<ApiError, NoMemory>
         ensures { IfOk result (λ error. error ≡ error_of ChargeAlreadyRefunded) }
     {
-        ApiError::bare(alloc, 400, ErrorKind::InvalidRequestError, Some(Code::ChargeAlreadyRefunded), "The charge has been refunded.")
+        ApiError::bare(
+            alloc,
+            400,
+            ErrorKind::InvalidRequestError,
+            Some(Code::ChargeAlreadyRefunded),
+            "The charge has been refunded.",
+        )
     }
 
     /// The charge has a dispute that isn't won.
     pub fn charge_disputed(alloc: Global) -> Result<ApiError, NoMemory>
         ensures { IfOk result (λ error. error ≡ error_of ChargeDisputed) }
     {
-        ApiError::bare(alloc, 400, ErrorKind::InvalidRequestError, Some(Code::ChargeDisputed), "The charge is disputed.")
+        ApiError::bare(
+            alloc,
+            400,
+            ErrorKind::InvalidRequestError,
+            Some(Code::ChargeDisputed),
+            "The charge is disputed.",
+        )
     }
 
     /// The call is the platform's, and was made for a connected account.
     pub fn platform_only(alloc: Global) -> Result<ApiError, NoMemory>
         ensures { IfOk result (λ error. error ≡ error_of PlatformOnly) }
     {
-        let error = ApiError::bare(alloc, 400, ErrorKind::InvalidRequestError, None, "Not possible on a connected account.")?;
+        let error = ApiError::bare(
+            alloc,
+            400,
+            ErrorKind::InvalidRequestError,
+            None,
+            "Not possible on a connected account.",
+        )?;
         error.about(alloc, b"Stripe-Account")
     }
 
@@ -66,14 +108,26 @@ impl ApiError {
     pub fn balance_insufficient(alloc: Global) -> Result<ApiError, NoMemory>
         ensures { IfOk result (λ error. error ≡ error_of BalanceInsufficient) }
     {
-        ApiError::bare(alloc, 400, ErrorKind::InvalidRequestError, Some(Code::BalanceInsufficient), "Insufficient available funds.")
+        ApiError::bare(
+            alloc,
+            400,
+            ErrorKind::InvalidRequestError,
+            Some(Code::BalanceInsufficient),
+            "Insufficient available funds.",
+        )
     }
 
     /// The clock was to be set to an earlier moment.
     pub fn clock_backwards(alloc: Global) -> Result<ApiError, NoMemory>
         ensures { IfOk result (λ error. error ≡ error_of ClockBackwards) }
     {
-        let error = ApiError::bare(alloc, 400, ErrorKind::InvalidRequestError, Some(Code::ClockBackwards), "The clock does not go back.")?;
+        let error = ApiError::bare(
+            alloc,
+            400,
+            ErrorKind::InvalidRequestError,
+            Some(Code::ClockBackwards),
+            "The clock does not go back.",
+        )?;
         error.about(alloc, b"now")
     }
 
@@ -81,7 +135,13 @@ impl ApiError {
     pub fn not_authenticated(alloc: Global) -> Result<ApiError, NoMemory>
         ensures { IfOk result (λ error. error ≡ error_of NotAuthenticated) }
     {
-        ApiError::bare(alloc, 402, ErrorKind::CardError, Some(Code::PaymentIntentAuthenticationFailure), "The payment was not authenticated.")
+        ApiError::bare(
+            alloc,
+            402,
+            ErrorKind::CardError,
+            Some(Code::PaymentIntentAuthenticationFailure),
+            "The payment was not authenticated.",
+        )
     }
 
     /// The acquirer declined the payment.
@@ -92,7 +152,13 @@ impl ApiError {
             Decline::Generic => "Your card was declined.",
             Decline::NoFunds => "Your card has insufficient funds.",
         };
-        let mut error = ApiError::bare(alloc, 402, ErrorKind::CardError, Some(Code::CardDeclined), message)?;
+        let mut error = ApiError::bare(
+            alloc,
+            402,
+            ErrorKind::CardError,
+            Some(Code::CardDeclined),
+            message,
+        )?;
         error.decline = Some(decline);
         Ok(error)
     }

@@ -13,14 +13,26 @@ impl ApiError {
     pub fn invalid_api_key(alloc: Global) -> Result<ApiError, NoMemory>
         ensures { IfOk result (λ error. error ≡ error_of InvalidApiKey) }
     {
-        ApiError::bare(alloc, 401, ErrorKind::InvalidRequestError, None, "Invalid API Key provided.")
+        ApiError::bare(
+            alloc,
+            401,
+            ErrorKind::InvalidRequestError,
+            None,
+            "Invalid API Key provided.",
+        )
     }
 
     /// `Stripe-Account` names no account.
     pub fn no_such_account(alloc: Global) -> Result<ApiError, NoMemory>
         ensures { IfOk result (λ error. error ≡ error_of NoSuchAccount) }
     {
-        let error = ApiError::bare(alloc, 404, ErrorKind::InvalidRequestError, Some(Code::ResourceMissing), "No such account.")?;
+        let error = ApiError::bare(
+            alloc,
+            404,
+            ErrorKind::InvalidRequestError,
+            Some(Code::ResourceMissing),
+            "No such account.",
+        )?;
         error.about(alloc, b"Stripe-Account")
     }
 
@@ -28,7 +40,13 @@ impl ApiError {
     pub fn unrecognized_url(alloc: Global) -> Result<ApiError, NoMemory>
         ensures { IfOk result (λ error. error ≡ error_of UnrecognizedUrl) }
     {
-        ApiError::bare(alloc, 404, ErrorKind::InvalidRequestError, None, "Unrecognized request URL.")
+        ApiError::bare(
+            alloc,
+            404,
+            ErrorKind::InvalidRequestError,
+            None,
+            "Unrecognized request URL.",
+        )
     }
 
     /// The pair at this place of the form, counted from 0, has a name of no form that is taken.
@@ -75,7 +93,13 @@ impl ApiError {
     pub fn parameter_unknown(alloc: Global, param: &[u8]) -> Result<ApiError, NoMemory>
         ensures { IfOk result (λ error. error ≡ error_of (ParameterUnknown param.now)) }
     {
-        let error = ApiError::bare(alloc, 400, ErrorKind::InvalidRequestError, Some(Code::ParameterUnknown), "Received unknown parameter.")?;
+        let error = ApiError::bare(
+            alloc,
+            400,
+            ErrorKind::InvalidRequestError,
+            Some(Code::ParameterUnknown),
+            "Received unknown parameter.",
+        )?;
         error.about(alloc, param)
     }
 
@@ -83,7 +107,13 @@ impl ApiError {
     pub fn parameter_missing(alloc: Global, param: &[u8]) -> Result<ApiError, NoMemory>
         ensures { IfOk result (λ error. error ≡ error_of (ParameterMissing param.now)) }
     {
-        let error = ApiError::bare(alloc, 400, ErrorKind::InvalidRequestError, Some(Code::ParameterMissing), "Missing required parameter.")?;
+        let error = ApiError::bare(
+            alloc,
+            400,
+            ErrorKind::InvalidRequestError,
+            Some(Code::ParameterMissing),
+            "Missing required parameter.",
+        )?;
         error.about(alloc, param)
     }
 
@@ -91,7 +121,13 @@ impl ApiError {
     pub fn parameter_invalid_integer(alloc: Global, param: &[u8]) -> Result<ApiError, NoMemory>
         ensures { IfOk result (λ error. error ≡ error_of (ParameterInvalidInteger param.now)) }
     {
-        let error = ApiError::bare(alloc, 400, ErrorKind::InvalidRequestError, Some(Code::ParameterInvalidInteger), "Invalid integer.")?;
+        let error = ApiError::bare(
+            alloc,
+            400,
+            ErrorKind::InvalidRequestError,
+            Some(Code::ParameterInvalidInteger),
+            "Invalid integer.",
+        )?;
         error.about(alloc, param)
     }
 
@@ -99,7 +135,13 @@ impl ApiError {
     pub fn amount_too_small(alloc: Global) -> Result<ApiError, NoMemory>
         ensures { IfOk result (λ error. error ≡ error_of AmountTooSmall) }
     {
-        let error = ApiError::bare(alloc, 400, ErrorKind::InvalidRequestError, Some(Code::AmountTooSmall), "Amount is below the minimum.")?;
+        let error = ApiError::bare(
+            alloc,
+            400,
+            ErrorKind::InvalidRequestError,
+            Some(Code::AmountTooSmall),
+            "Amount is below the minimum.",
+        )?;
         error.about(alloc, b"amount")
     }
 
@@ -107,7 +149,13 @@ impl ApiError {
     pub fn amount_too_large(alloc: Global, param: &[u8]) -> Result<ApiError, NoMemory>
         ensures { IfOk result (λ error. error ≡ error_of (AmountTooLarge param.now)) }
     {
-        let error = ApiError::bare(alloc, 400, ErrorKind::InvalidRequestError, Some(Code::AmountTooLarge), "Amount is above the maximum.")?;
+        let error = ApiError::bare(
+            alloc,
+            400,
+            ErrorKind::InvalidRequestError,
+            Some(Code::AmountTooLarge),
+            "Amount is above the maximum.",
+        )?;
         error.about(alloc, param)
     }
 
@@ -115,7 +163,13 @@ impl ApiError {
     pub fn invalid_value(alloc: Global, param: &[u8]) -> Result<ApiError, NoMemory>
         ensures { IfOk result (λ error. error ≡ error_of (InvalidValue param.now)) }
     {
-        let error = ApiError::bare(alloc, 400, ErrorKind::InvalidRequestError, None, "Invalid value.")?;
+        let error = ApiError::bare(
+            alloc,
+            400,
+            ErrorKind::InvalidRequestError,
+            None,
+            "Invalid value.",
+        )?;
         error.about(alloc, param)
     }
 
@@ -123,7 +177,13 @@ impl ApiError {
     pub fn no_such_payment_method(alloc: Global, param: &[u8]) -> Result<ApiError, NoMemory>
         ensures { IfOk result (λ error. error ≡ error_of (NoSuchPaymentMethod param.now)) }
     {
-        let error = ApiError::bare(alloc, 400, ErrorKind::InvalidRequestError, Some(Code::ResourceMissing), "No such payment method.")?;
+        let error = ApiError::bare(
+            alloc,
+            400,
+            ErrorKind::InvalidRequestError,
+            Some(Code::ResourceMissing),
+            "No such payment method.",
+        )?;
         error.about(alloc, param)
     }
 
@@ -131,28 +191,52 @@ impl ApiError {
     pub fn key_too_long(alloc: Global) -> Result<ApiError, NoMemory>
         ensures { IfOk result (λ error. error ≡ error_of KeyTooLong) }
     {
-        ApiError::bare(alloc, 400, ErrorKind::IdempotencyError, None, "Idempotency key is too long.")
+        ApiError::bare(
+            alloc,
+            400,
+            ErrorKind::IdempotencyError,
+            None,
+            "Idempotency key is too long.",
+        )
     }
 
     /// The idempotency key isn't UTF-8.
     pub fn key_not_text(alloc: Global) -> Result<ApiError, NoMemory>
         ensures { IfOk result (λ error. error ≡ error_of KeyNotText) }
     {
-        ApiError::bare(alloc, 400, ErrorKind::IdempotencyError, None, "Idempotency key is not text.")
+        ApiError::bare(
+            alloc,
+            400,
+            ErrorKind::IdempotencyError,
+            None,
+            "Idempotency key is not text.",
+        )
     }
 
     /// The idempotency key was used by a request with another method, path or form.
     pub fn key_differs(alloc: Global) -> Result<ApiError, NoMemory>
         ensures { IfOk result (λ error. error ≡ error_of KeyDiffers) }
     {
-        ApiError::bare(alloc, 400, ErrorKind::IdempotencyError, None, "Idempotency key was used with other parameters.")
+        ApiError::bare(
+            alloc,
+            400,
+            ErrorKind::IdempotencyError,
+            None,
+            "Idempotency key was used with other parameters.",
+        )
     }
 
     /// A request with this idempotency key is running; it may be sent again.
     pub fn key_in_use(alloc: Global) -> Result<ApiError, NoMemory>
         ensures { IfOk result (λ error. error ≡ error_of KeyInUse) }
     {
-        let mut error = ApiError::bare(alloc, 409, ErrorKind::IdempotencyError, Some(Code::IdempotencyKeyInUse), "A request with this idempotency key is running.")?;
+        let mut error = ApiError::bare(
+            alloc,
+            409,
+            ErrorKind::IdempotencyError,
+            Some(Code::IdempotencyKeyInUse),
+            "A request with this idempotency key is running.",
+        )?;
         error.retry = true;
         Ok(error)
     }

@@ -1,4 +1,4 @@
-use Rattle.std.proofs.Common.{◌≡◌, sym}
+use Rattle.std.proofs.Common.{sym}
 use Rattle.ph_errors.proofs.FixedLemmas.{malformed_body, body_too_large_body, head_too_large_body, not_implemented_body, version_not_supported_body, acquirer_pending_body, acquirer_failed_body, no_memory_body, history_full_body}
 use Rattle.ph_errors.proofs.fixed.Fixed.body.Goals as goal
 
