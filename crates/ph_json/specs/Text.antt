@@ -19,7 +19,8 @@ by_key members = fold (λ sorted member. insert_entry (slice_cmp nat_cmp) sorted
 abbrev pub member_text : List ℕ × List ℕ → List ℕ
 member_text member = quoted member.0 ++ codes ":" ++ member.1
 
--- one level, with the text of each document inside in its place
+-- one level, with the text of each document inside in its place; between quotes `"` and `\` follow a backslash,
+-- the bytes below 32 are \b, \f, \n, \r, \t or \u00 and two lower-case digits, and all others stand as they are
 abbrev pub text_step : Doc-F (List ℕ) → List ℕ
 text_step Doc-F.Null = codes "null"
 text_step (Doc-F.Truth true) = codes "true"
