@@ -1,0 +1,5 @@
+pub mod Body
+pub mod Fixed
+pub mod Names
+pub mod Refusal
+pub mod Table
