@@ -1,0 +1,6 @@
+//! What a history holds of each object.
+#![tactic(auto)]
+
+mod orders;
+
+pub use orders::Order;

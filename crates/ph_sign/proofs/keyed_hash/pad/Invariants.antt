@@ -1,0 +1,6 @@
+use Rattle.std.proofs.Common.{◌≡◌, length, take, map, bit_xor}
+use Rattle.ph_sign.proofs.keyed_hash.pad.Given as goal
+
+abbrev pub invariant-bytes : goal.invariant-bytes
+invariant-bytes l =
+    (length l.out ≡ 64) × (take l.i l.out ≡ map (λ b. bit_xor b l.with) (take l.i l.block))

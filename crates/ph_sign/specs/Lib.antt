@@ -1,0 +1,4 @@
+pub mod Hmac
+pub mod Signatures
+pub mod Verdicts
+pub mod Laws
