@@ -1,0 +1,3 @@
+pub mod Currencies
+pub mod Fees
+pub mod Laws
