@@ -1,0 +1,4 @@
+mod BalanceLemmas
+mod MetadataLemmas
+pub mod SoundLemmas
+mod WeightLemmas

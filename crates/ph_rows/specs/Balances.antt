@@ -1,6 +1,6 @@
 -- Balances: sums over the transactions of an account.
-use Rattle.std.specs.Prelude.{ℕ, ◌==◌, nat_le, nat_lt, ℤ, pos, ◌+ℤ◌, List, Option, None}
-use Rattle.std.specs.List.{fold, filter, filter_map}
+use Rattle.std.specs.Prelude.{ℕ, Bool, true, false, ◌==◌, nat_le, nat_lt, if◌then◌else◌, ℤ, pos, ◌+ℤ◌, List, [], ◌∷◌, Option, None}
+use Rattle.std.specs.List.{filter, filter_map}
 use Rattle.ph_money.specs.declared.currencies.Currency.{Currency}
 use Rattle.ph_money.specs.declared.currencies.Currency.TheVariants.{Eur, Gbp, Jpy, Usd}
 use Rattle.ph_rows.specs.declared.rows.Row.{Row}
@@ -29,12 +29,21 @@ movements_of account currency rows =
 
 -- the sum of what is moved
 abbrev pub net_of : List Movement → ℤ
-net_of movements = fold (λ sum movement. sum +ℤ movement.net) (pos 0) movements
+net_of [] = pos 0
+net_of (movement ∷ movements) = movement.net +ℤ net_of movements
 
--- the available balance at a time: what the transactions move that are available by then
+-- whether a movement counts at a time: for the available balance, or (false) for the pending one
+abbrev pub counts : Bool → ℕ → Movement → Bool
+counts available time movement = if available then nat_le movement.available_on time else nat_lt time movement.available_on
+
+-- the available or (false) the pending balance of an account in a currency at a time
+abbrev pub balance_of : Bool → ℕ → Currency → ℕ → List Row → ℤ
+balance_of available account currency time rows = net_of (filter (counts available time) (movements_of account currency rows))
+
+-- the available balance: what the transactions move that are available by the time
 abbrev pub available_of : ℕ → Currency → ℕ → List Row → ℤ
-available_of account currency time rows = net_of (filter (λ movement. nat_le movement.available_on time) (movements_of account currency rows))
+available_of account currency time rows = balance_of true account currency time rows
 
--- the pending balance at a time: what the others move
+-- the pending balance: what the other transactions move
 abbrev pub pending_of : ℕ → Currency → ℕ → List Row → ℤ
-pending_of account currency time rows = net_of (filter (λ movement. nat_lt time movement.available_on) (movements_of account currency rows))
+pending_of account currency time rows = balance_of false account currency time rows

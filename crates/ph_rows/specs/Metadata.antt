@@ -20,12 +20,13 @@ abbrev pub are_ordered : List MetadataPair → Bool
 are_ordered [] = true
 are_ordered (pair ∷ pairs) = is_before pair.key pairs && are_ordered pairs
 
--- the pairs with a name's text, which takes the place of the text that the name had
-abbrev pub with_pair : List ℕ → List ℕ → List MetadataPair → List MetadataPair
-with_pair name text [] = record { key = name; value = text } ∷ []
-with_pair name text (pair ∷ pairs) = placed (name_cmp name pair.key)
-  where
-    placed : Ordering → List MetadataPair
-    placed Less = record { key = name; value = text } ∷ pair ∷ pairs
-    placed Equal = record { key = name; value = text } ∷ pairs
-    placed Greater = pair ∷ with_pair name text pairs
+-- a pair beside the one in front of the others, by how their names stand: before it, in its place, or further on
+abbrev pub placed_pair : Ordering → MetadataPair → MetadataPair → List MetadataPair → List MetadataPair → List MetadataPair
+placed_pair Less new pair pairs further = new ∷ pair ∷ pairs
+placed_pair Equal new pair pairs further = new ∷ pairs
+placed_pair Greater new pair pairs further = pair ∷ further
+
+-- the pairs with one more, which takes the place of the pair of its name
+abbrev pub with_pair : MetadataPair → List MetadataPair → List MetadataPair
+with_pair new [] = new ∷ []
+with_pair new (pair ∷ pairs) = placed_pair (name_cmp new.key pair.key) new pair pairs (with_pair new pairs)

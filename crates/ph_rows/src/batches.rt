@@ -84,7 +84,7 @@ impl Batch {
         ensures ok { OnOk result (self.new ≡ with_row self.old (last_place self.old + 1) account item) }
         ensures err { OnErr result (self.new ≡ self.old) }
     {
-        let object = self.count() + 1;
+        let object = self.began + self.rows.len() as u64 + 1;
         self.change(object, account, item)?;
         Ok(object)
     }
@@ -180,12 +180,14 @@ fn event_rows(
     count: u64,
     announced: &[Announced],
 ) -> Result<Vec<Row>, NoMemory>
-    requires { count < 2 ^ 63 }
     ensures { IfOk result (λ events. events.items ≡ Rattle.ph_rows.specs.Batches.event_rows (option_copied key.entry) at rows.now count announced.now) }
 {
     let mut events = Vec::new(alloc);
     for told in announced {
-        let place = count + events.len() as u64 + 1;
+        // No memory holds so many rows that 64 bits don't number them.
+        let Some(place) = count.checked_add(events.len() as u64 + 1) else {
+            return Err(NoMemory);
+        };
         events.push(event_row(alloc, key, at, rows, place, told)?)?;
     }
     Ok(events)

@@ -113,10 +113,10 @@ impl View for ListView {
     }
 
     fn available(&self, account: u64, currency: Currency) -> i64 {
-        scans::balances(self.rows.as_slice(), account, currency, self.time).0
+        scans::balance(true, self.rows.as_slice(), account, currency, self.time)
     }
 
     fn pending(&self, account: u64, currency: Currency) -> i64 {
-        scans::balances(self.rows.as_slice(), account, currency, self.time).1
+        scans::balance(false, self.rows.as_slice(), account, currency, self.time)
     }
 }

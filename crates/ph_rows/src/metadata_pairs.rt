@@ -66,23 +66,12 @@ impl Metadata {
     }
 
     /// Gives a name its text, in place of the one that it had. Where memory is wanting nothing changes.
+    #[tactic(auto, using(crate::proofs::MetadataLemmas::stays_ordered))]
     pub fn set(&mut self, key: Bytes, value: Bytes) -> Result<(), NoMemory>
-        ensures ok { OnOk result (self.new ≡ with_pair key value self.old) }
+        ensures ok { OnOk result (self.new ≡ with_pair (record { key = key; value = value }) self.old) }
         ensures err { OnErr result (self.new ≡ self.old) }
     {
-        let mut place = 0;
-        while place < self.pairs.len() {
-            match key.as_slice().cmp(self.pairs[place].key.as_slice()) {
-                Ordering::Less => break,
-                Ordering::Equal => {
-                    self.pairs[place] = MetadataPair { key, value };
-                    return Ok(());
-                }
-                Ordering::Greater => place += 1,
-            }
-        }
-        self.pairs.insert(place, MetadataPair { key, value })?;
-        Ok(())
+        put(&mut self.pairs, MetadataPair { key, value })
     }
 
     /// The same metadata once more.
@@ -98,4 +87,24 @@ impl Metadata {
         }
         Ok(Metadata { pairs })
     }
+}
+
+// Puts a pair where its name belongs, in place of the pair of its name.
+fn put(pairs: &mut Vec<MetadataPair>, new: MetadataPair) -> Result<(), NoMemory>
+    ensures ok { OnOk result (pairs.new.items ≡ with_pair new pairs.old.items) }
+    ensures err { OnErr result (pairs.new.items ≡ pairs.old.items) }
+{
+    let mut place = 0;
+    while place < pairs.len() {
+        match new.key.as_slice().cmp(pairs[place].key.as_slice()) {
+            Ordering::Less => break,
+            Ordering::Equal => {
+                pairs[place] = new;
+                return Ok(());
+            }
+            Ordering::Greater => place += 1,
+        }
+    }
+    pairs.insert(place, new)?;
+    Ok(())
 }

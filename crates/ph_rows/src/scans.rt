@@ -1,8 +1,8 @@
 //! Look-ups that read the rows one by one.
-ghost use Rattle.std.specs.Prelude.{◌≡◌, ◌<◌, ◌^◌, length};
+ghost use Rattle.std.specs.Prelude.{◌≡◌, ◌<◌, ◌^◌, ◌∷◌, [], length};
 ghost use Rattle.std.specs.Option.{option_copied};
 ghost use Rattle.ph_rows.specs.Rows.{row_at, latest_of, is_first_of, greater, lesser, newest_object, oldest_object, newest_of, oldest_of};
-ghost use Rattle.ph_rows.specs.Balances.{available_of, pending_of, currency_number};
+ghost use Rattle.ph_rows.specs.Balances.{balance_of, currency_number};
 
 use crate::items::kind_number;
 use crate::rows::Row;
@@ -108,32 +108,42 @@ pub fn oldest(rows: &[Row], account: u64, kind: Kind, above: u64) -> Option<&Row
     }
 }
 
-/// The available and the pending balance of an account in a currency, at a time.
-pub fn balances(rows: &[Row], account: u64, currency: Currency, time: u64) -> (i64, i64)
-    requires { length rows.now < 2 ^ 32 }
-    ensures available { result.0 ≡ available_of account currency time rows.now }
-    ensures pending { result.1 ≡ pending_of account currency time rows.now }
-{
-    let mut available: i64 = 0;
-    let mut pending: i64 = 0;
-    for row in rows {
-        if row.account == account
-            && let Some(movement) = row.item.movement()
-            && currency_place(movement.currency) == currency_place(currency)
-        {
-            if movement.available_on <= time {
-                available += movement.net as i64;
-            } else {
-                pending += movement.net as i64;
-            }
-        }
-    }
-    (available, pending)
-}
-
 // The place of a currency in the list of currencies.
 fn currency_place(currency: Currency) -> u8
     ensures { result ≡ currency_number currency }
 {
     currency as u8
+}
+
+// What one row moves on a balance.
+fn moved(available: bool, row: &Row, account: u64, currency: Currency, time: u64) -> i32
+    ensures { result ≡ balance_of available account currency time (row.now ∷ []) }
+{
+    if row.account != account {
+        return 0;
+    }
+    let Some(movement) = row.item.movement() else {
+        return 0;
+    };
+    if currency_place(movement.currency) != currency_place(currency) {
+        return 0;
+    }
+    let counts = if available {
+        movement.available_on <= time
+    } else {
+        time < movement.available_on
+    };
+    if counts { movement.net } else { 0 }
+}
+
+/// The available or (false) the pending balance of an account in a currency, at a time.
+pub fn balance(available: bool, rows: &[Row], account: u64, currency: Currency, time: u64) -> i64
+    requires { length rows.now < 2 ^ 32 }
+    ensures { result ≡ balance_of available account currency time rows.now }
+{
+    let mut sum: i64 = 0;
+    for row in rows {
+        sum += moved(available, row, account, currency, time) as i64;
+    }
+    sum
 }

@@ -72,13 +72,13 @@ fn plus_method(sum: u64, method: Option<&PaymentMethod>) -> Option<u64>
 }
 
 // A sum and the lengths of the names and the texts of metadata.
-fn plus_pairs(sum: u64, pairs: &[MetadataPair]) -> Option<u64>
-    ensures { SomeIff result (sum + total_length (metadata_texts pairs.now) < 2 ^ 64) (sum + total_length (metadata_texts pairs.now)) }
+fn plus_pairs(before: u64, pairs: &[MetadataPair]) -> Option<u64>
+    ensures { SomeIff result (before + total_length (metadata_texts pairs.now) < 2 ^ 64) (before + total_length (metadata_texts pairs.now)) }
 {
-    let mut sum = sum;
+    let mut sum = before;
     for pair in pairs {
-        sum = sum.checked_add(pair.key.as_slice().len() as u64)?;
-        sum = sum.checked_add(pair.value.as_slice().len() as u64)?;
+        let named = sum.checked_add(pair.key.as_slice().len() as u64)?;
+        sum = named.checked_add(pair.value.as_slice().len() as u64)?;
     }
     Some(sum)
 }
