@@ -1,4 +1,3 @@
 mod BalanceLemmas
 mod MetadataLemmas
 pub mod SoundLemmas
-mod WeightLemmas

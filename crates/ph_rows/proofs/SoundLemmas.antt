@@ -1,8 +1,9 @@
 use Rattle.std.specs.Prelude.{slice_get}
-use Rattle.std.proofs.Common.{◌≡◌, ℕ, zero, suc, ◌+◌, ◌-◌, ◌≤◌, ◌<◌, ◌⊎◌, inl, inr, Bool, true, false, cond, eqb, List, [], ◌∷◌, ◌++◌, Option, None, Some, length, sym, refl, ap, ◌∙◌, subst, arith}
+use Rattle.std.proofs.Common.{◌≡◌, ℕ, zero, suc, ◌+◌, ◌-◌, ◌^◌, ◌≤◌, ◌<◌, ◌⊎◌, inl, inr, Bool, true, false, cond, eqb, List, [], ◌∷◌, ◌++◌, Option, None, Some, length, sym, refl, ap, ◌∙◌, subst, arith}
 use Rattle.std.specs.List.{fold, list_all}
 use Rattle.std.specs.Str.{is_utf8}
 use Rattle.std.proofs.lemmas.Bool.{eqb-true, eqb-false, cond-false, ne_eqb}
+use Rattle.std.proofs.lemmas.List.{length-append}
 use Rattle.std.proofs.lemmas.Option.{slice_get_within}
 use Rattle.ph_rows.specs.declared.rows.Row.{Row}
 use Rattle.ph_rows.specs.declared.items.Item.TheVariants as item
@@ -107,6 +108,7 @@ subject_within rows row event h = at (row_at event.object rows) refl h
 pub sound_empty : (time : ℕ) → time ≤ clock_limit → IsSound (record { time = time; rows = [] })
 sound_empty time clock = record {
   clock = clock;
+  few = omega arith;
   placed = λ place row e. none place row e;
   begun = λ place row e. none place row e;
   first = λ place row e. none place row e;
@@ -122,6 +124,7 @@ sound_empty time clock = record {
 pub sound_later : (state : ViewState) (now : ℕ) → IsSound state → state.time ≤ now → now ≤ clock_limit → IsSound (record state { time = now })
 sound_later state now sound later clock = record {
   clock = clock;
+  few = sound.few;
   placed = sound.placed;
   begun = sound.begun;
   first = sound.first;
@@ -134,6 +137,7 @@ sound_later state now sound later clock = record {
 pub sound_with : (state : ViewState) (new : Row) → IsSound state → MayFollow state new → IsSound (with_next state new)
 sound_with state new sound follows = record {
   clock = sound.clock;
+  few = (let length_is : length (state.rows ++ new ∷ []) ≡ length state.rows + 1 = length-append state.rows (new ∷ []) in let few : length state.rows + 1 < 10 ^ 16 = follows.few in omega arith);
   placed = λ place row e. elim (row_at-more place state.rows new row e) [
     | inl old ↦ sound.placed place row old
     | inr last ↦ ap (λ (r : Row). r.place) (sym last.1) ∙ follows.place ∙ sym last.0
@@ -162,6 +166,7 @@ sound_with state new sound follows = record {
   where
     here : (place : ℕ) → place ≡ length state.rows + 1 → new.object ≤ place
     here place at = let a : new.place ≡ length state.rows + 1 = follows.place in let b : new.object ≤ new.place = follows.first in omega arith
+
     told : (place : ℕ) (row : Row) (event : Event) → place ≡ length state.rows + 1 → HasSubject (row_at event.object state.rows) row event → (event.object < place) × HasSubject (row_at event.object (state.rows ++ new ∷ [])) row event
     told place row event at h = (let within : event.object ≤ length state.rows = subject_within state.rows row event h in omega arith, has_subject-before state.rows (new ∷ []) row event h)
 

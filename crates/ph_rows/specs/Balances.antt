@@ -25,7 +25,7 @@ currency_number Usd = 3
 abbrev pub movements_of : ℕ → Currency → List Row → List Movement
 movements_of account currency rows =
     filter (λ movement. currency_number movement.currency == currency_number currency)
-        (filter_map (λ row. movement_of row.item) (filter (λ row. row.account == account) rows))
+    (filter_map (λ row. movement_of row.item) (filter (λ row. row.account == account) rows))
 
 -- the sum of what is moved
 abbrev pub net_of : List Movement → ℤ

@@ -26,7 +26,7 @@ last_place batch = batch.began + length batch.rows
 -- the batch with one row more, at the next place: a version of an object
 abbrev pub with_row : BatchState → ℕ → ℕ → Item → BatchState
 with_row batch object account content = record batch {
-  rows = batch.rows ++ record { place = last_place batch + 1; object = object; at = batch.at; account = account; item = content } ∷ []
+  rows = batch.rows ++ record { place = last_place batch + 1; object = object; at = batch.at; account = account; item = content } ∷ [];
 }
 
 -- the batch with one announcement more

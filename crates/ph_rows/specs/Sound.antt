@@ -1,5 +1,5 @@
 -- What holds of the rows of every legal history.
-use Rattle.std.specs.Prelude.{◌≡◌, ℕ, ◌+◌, ◌≤◌, ◌<◌, true, List, [], ◌∷◌, ◌++◌, Option, None, Some, length}
+use Rattle.std.specs.Prelude.{◌≡◌, ℕ, ◌+◌, ◌^◌, ◌≤◌, ◌<◌, true, [], ◌∷◌, ◌++◌, Option, None, Some, length}
 use Rattle.std.specs.List.{list_all}
 use Rattle.std.specs.Str.{is_utf8}
 use Rattle.ph_rows.specs.declared.rows.Row.{Row}
@@ -41,6 +41,8 @@ HasSubject (Some first) row event = SpeaksOf first row event
 pub record IsSound (state : ViewState) : Type 0 where
   -- the time is one that a clock shows
   pub clock : state.time ≤ clock_limit
+  -- sixteen digits number the rows
+  pub few : length state.rows < 10 ^ 16
   -- a row's place is its position
   pub placed : (place : ℕ) (row : Row) → row_at place state.rows ≡ Some row → row.place ≡ place
   -- the row of an object's number is its first version; every version is of its account and its kind
@@ -58,8 +60,9 @@ pub record IsSound (state : ViewState) : Type 0 where
 abbrev pub with_next : ViewState → Row → ViewState
 with_next state row = record state { rows = state.rows ++ row ∷ [] }
 
--- a row that an entry may add to a view: at the next place, at the view's time, of a new object or a further version of one
+-- a row that an entry may add to a view: at the next place and the view's time, of a new object or a further version of one
 pub record MayFollow (state : ViewState) (row : Row) : Type 0 where
+  pub few : length state.rows + 1 < 10 ^ 16
   pub place : row.place ≡ length state.rows + 1
   pub at : row.at ≡ state.time
   pub begun : HasBegun (row_at row.object (state.rows ++ row ∷ [])) row

@@ -26,7 +26,7 @@ abbrev pub texts_of : Item → List (List ℕ)
 texts_of (item.Account account) = with_text account.email (metadata_texts account.metadata)
 texts_of (item.Intent intent) =
     with_text (method_text intent.payment_method)
-        (with_text intent.description (with_text intent.transfer_group (metadata_texts intent.metadata)))
+    (with_text intent.description (with_text intent.transfer_group (metadata_texts intent.metadata)))
 texts_of (item.Event event) = with_text event.key []
 
 -- the lengths of texts together

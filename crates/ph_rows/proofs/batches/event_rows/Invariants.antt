@@ -6,4 +6,4 @@ use Rattle.ph_rows.proofs.batches.event_rows.Given as goal
 abbrev pub invariant-loop-told : goal.invariant-loop-told
 invariant-loop-told l =
     l.events.items ++ event_rows (option_copied l.key) l.at l.rows (l.count + length l.events.items) (drop l.told-index l.announced)
-        ≡ event_rows (option_copied l.key) l.at l.rows l.count l.announced
+    ≡ event_rows (option_copied l.key) l.at l.rows l.count l.announced

@@ -7,4 +7,4 @@ use Rattle.ph_rows.proofs.scans.least_above.Given as goal
 abbrev pub invariant-loop-row : goal.invariant-loop-row
 invariant-loop-row l =
     fold (λ found number. Some (lesser found number)) l.found (filter (λ number. nat_lt l.above number) (objects_of l.account l.kind (drop l.row-index l.rows)))
-        ≡ oldest_object l.account l.kind l.above l.rows
+    ≡ oldest_object l.account l.kind l.above l.rows
