@@ -1,0 +1,9 @@
+pub mod Balances
+pub mod Batches
+pub mod Kinds
+pub mod Metadata
+pub mod Rows
+pub mod Sound
+pub mod Views
+pub mod Weights
+pub mod Words

@@ -1,6 +1,35 @@
-//! What a history holds of each object.
+//! The rows of a history, the view of them that operations read, and the batch of rows that one entry adds.
 #![tactic(auto)]
 
+mod accounts;
+mod batches;
+mod event_kinds;
+mod events;
+mod intents;
+mod items;
+mod list_views;
+mod metadata_pairs;
+mod movements;
 mod orders;
+mod payment_methods;
+mod rows;
+mod scans;
+#[cfg(test)]
+mod tests;
+mod views;
+mod weights;
 
+pub use accounts::{Account, AccountType};
+pub use batches::{Announced, Batch};
+pub use event_kinds::EventKind;
+pub use events::Event;
+pub use intents::{CaptureMethod, Intent, IntentStatus};
+pub use items::Item;
+pub use list_views::ListView;
+pub use metadata_pairs::{Metadata, MetadataPair};
+pub use movements::Movement;
 pub use orders::Order;
+pub use payment_methods::PaymentMethod;
+pub use rows::Row;
+pub use views::View;
+pub use weights::weight_with_rows;

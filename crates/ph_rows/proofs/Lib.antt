@@ -1,0 +1,3 @@
+mod BalanceLemmas
+mod MetadataLemmas
+pub mod SoundLemmas

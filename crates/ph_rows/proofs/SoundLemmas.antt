@@ -1,0 +1,198 @@
+use Rattle.std.specs.Prelude.{slice_get}
+use Rattle.std.proofs.Common.{◌≡◌, ℕ, zero, suc, ◌+◌, ◌-◌, ◌^◌, ◌≤◌, ◌<◌, ◌⊎◌, inl, inr, Bool, true, false, cond, eqb, List, [], ◌∷◌, ◌++◌, Option, None, Some, length, sym, refl, ap, ◌∙◌, subst, arith}
+use Rattle.std.specs.List.{fold, list_all}
+use Rattle.std.specs.Str.{is_utf8}
+use Rattle.std.proofs.lemmas.Bool.{eqb-true, eqb-false, cond-false, ne_eqb}
+use Rattle.std.proofs.lemmas.List.{length-append}
+use Rattle.std.proofs.lemmas.Option.{slice_get_within}
+use Rattle.ph_rows.specs.declared.rows.Row.{Row}
+use Rattle.ph_rows.specs.declared.items.Item.TheVariants as item
+use Rattle.ph_rows.specs.declared.events.Event.{Event}
+use Rattle.ph_rows.specs.Rows.{row_at, later_version, latest_of}
+use Rattle.ph_rows.specs.Views.{ViewState}
+use Rattle.ph_rows.specs.Weights.{texts_of}
+use Rattle.ph_rows.specs.Sound.{clock_limit, HasBegun, HasSubject, IsSound, with_next, MayFollow}
+
+-- which of two was chosen
+pub picked : {A : Type 0} (b : Bool) (x y z : A) → cond b x y ≡ z → ((b ≡ true) × (x ≡ z)) ⊎ ((b ≡ false) × (y ≡ z))
+picked true x y z e = inl (refl, e)
+picked false x y z e = inr (refl, e)
+
+-- an element stays where it is with more elements behind
+slice_get-before : (rows more : List Row) (i : ℕ) (row : Row) → slice_get rows i ≡ Some row → slice_get (rows ++ more) i ≡ Some row
+slice_get-before [] more i row e = absurd (cc)
+slice_get-before (x ∷ rows) more zero row e = e
+slice_get-before (x ∷ rows) more (suc i) row e = slice_get-before rows more i row e
+
+-- the element behind all others
+slice_get-next : (rows : List Row) (new : Row) → slice_get (rows ++ new ∷ []) (length rows) ≡ Some new
+slice_get-next [] new = refl
+slice_get-next (x ∷ rows) new = slice_get-next rows new
+
+-- an element with one more behind is one of the others or that one
+slice_get-more : (rows : List Row) (new : Row) (i : ℕ) (row : Row) → slice_get (rows ++ new ∷ []) i ≡ Some row → (slice_get rows i ≡ Some row) ⊎ ((i ≡ length rows) × (new ≡ row))
+slice_get-more [] new zero row e = inr (refl, cc)
+slice_get-more [] new (suc i) row e = absurd (cc)
+slice_get-more (x ∷ rows) new zero row e = inl e
+slice_get-more (x ∷ rows) new (suc i) row e = elim (slice_get-more rows new i row e) [ inl old ↦ inl old | inr last ↦ inr (ap suc last.0, last.1) ]
+
+-- the row of a place is the element before it
+row_at-is : (place : ℕ) (rows : List Row) (row : Row) → row_at place rows ≡ Some row → ((place ≡ 0) → ⊥) × (slice_get rows (place - 1) ≡ Some row)
+row_at-is place rows row e =
+    elim (picked (eqb place 0) None (slice_get rows (place - 1)) (Some row) e) [
+      | inl q ↦ (let clash : None ≡ Some row = q.1 in absurd (cc))
+      | inr q ↦ (eqb-false place 0 q.0, q.1)
+    ]
+
+-- the element before a place is its row
+is_row_at : (place : ℕ) (rows : List Row) (row : Row) → ((place ≡ 0) → ⊥) → slice_get rows (place - 1) ≡ Some row → row_at place rows ≡ Some row
+is_row_at place rows row some e = cond-false (eqb place 0) None (slice_get rows (place - 1)) (ne_eqb place 0 some) ∙ e
+
+-- the row of a place stays with more rows behind
+pub row_at-before : (place : ℕ) (rows more : List Row) (row : Row) → row_at place rows ≡ Some row → row_at place (rows ++ more) ≡ Some row
+row_at-before place rows more row e =
+    let found : ((place ≡ 0) → ⊥) × (slice_get rows (place - 1) ≡ Some row) = row_at-is place rows row e in
+    is_row_at place (rows ++ more) row found.0 (slice_get-before rows more (place - 1) row found.1)
+
+-- the row at the next place
+pub row_at-next : (rows : List Row) (new : Row) → row_at (length rows + 1) (rows ++ new ∷ []) ≡ Some new
+row_at-next rows new =
+    let last : length rows ≡ (length rows + 1) - 1 = omega arith in
+    is_row_at (length rows + 1) (rows ++ new ∷ []) new (λ e. omega arith) (subst (λ i. slice_get (rows ++ new ∷ []) i ≡ Some new) last (slice_get-next rows new))
+
+-- a place that has a row is one of the places
+pub row_at_within : (place : ℕ) (rows : List Row) (row : Row) → row_at place rows ≡ Some row → (0 < place) × (place ≤ length rows)
+row_at_within place rows row e =
+    let found : ((place ≡ 0) → ⊥) × (slice_get rows (place - 1) ≡ Some row) = row_at-is place rows row e in
+    let some : (place ≡ 0) → ⊥ = found.0 in
+    let below : place - 1 < length rows = slice_get_within rows (place - 1) row found.1 in
+    (omega arith, omega arith)
+
+-- with one row more, the row of a place is an earlier one or that one
+pub row_at-more : (place : ℕ) (rows : List Row) (new row : Row) → row_at place (rows ++ new ∷ []) ≡ Some row → (row_at place rows ≡ Some row) ⊎ ((place ≡ length rows + 1) × (new ≡ row))
+row_at-more place rows new row e = at (row_at-is place (rows ++ new ∷ []) row e)
+  where
+    at : ((place ≡ 0) → ⊥) × (slice_get (rows ++ new ∷ []) (place - 1) ≡ Some row) → (row_at place rows ≡ Some row) ⊎ ((place ≡ length rows + 1) × (new ≡ row))
+    at found =
+        let some : (place ≡ 0) → ⊥ = found.0 in
+        elim (slice_get-more rows new (place - 1) row found.1) [
+          | inl old ↦ inl (is_row_at place rows row some old)
+          | inr last ↦ (let e : place - 1 ≡ length rows = last.0 in inr (omega arith, last.1))
+        ]
+
+-- an object that has begun has begun with more rows behind
+has_begun-before : (rows more : List Row) (row : Row) → HasBegun (row_at row.object rows) row → HasBegun (row_at row.object (rows ++ more)) row
+has_begun-before rows more row h = at (row_at row.object rows) refl h
+  where
+    at : (o : Option Row) → row_at row.object rows ≡ o → HasBegun o row → HasBegun (row_at row.object (rows ++ more)) row
+    at None e h = absurd h
+    at (Some first) e h = subst (λ o. HasBegun o row) (sym (row_at-before row.object rows more first e)) h
+
+-- an event that has a subject has it with more rows behind
+has_subject-before : (rows more : List Row) (row : Row) (event : Event) → HasSubject (row_at event.object rows) row event → HasSubject (row_at event.object (rows ++ more)) row event
+has_subject-before rows more row event h = at (row_at event.object rows) refl h
+  where
+    at : (o : Option Row) → row_at event.object rows ≡ o → HasSubject o row event → HasSubject (row_at event.object (rows ++ more)) row event
+    at None e h = absurd h
+    at (Some first) e h = subst (λ o. HasSubject o row event) (sym (row_at-before event.object rows more first e)) h
+
+-- the subject of an event stands among the rows
+subject_within : (rows : List Row) (row : Row) (event : Event) → HasSubject (row_at event.object rows) row event → event.object ≤ length rows
+subject_within rows row event h = at (row_at event.object rows) refl h
+  where
+    at : (o : Option Row) → row_at event.object rows ≡ o → HasSubject o row event → event.object ≤ length rows
+    at None e h = absurd h
+    at (Some first) e h = (row_at_within event.object rows first e).1
+
+-- no rows are sound at each time that a clock shows
+pub sound_empty : (time : ℕ) → time ≤ clock_limit → IsSound (record { time = time; rows = [] })
+sound_empty time clock = record {
+  clock = clock;
+  few = omega arith;
+  placed = λ place row e. none place row e;
+  begun = λ place row e. none place row e;
+  first = λ place row e. none place row e;
+  past = λ place row e. none place row e;
+  texts = λ place row e. none place row e;
+  events = λ place row event e is. none place row e;
+}
+  where
+    none : {P : Type 0} (place : ℕ) (row : Row) → row_at place [] ≡ Some row → P
+    none place row e = absurd (let within = row_at_within place [] row e in omega arith)
+
+-- a sound view stays sound at a later time
+pub sound_later : (state : ViewState) (now : ℕ) → IsSound state → state.time ≤ now → now ≤ clock_limit → IsSound (record state { time = now })
+sound_later state now sound later clock = record {
+  clock = clock;
+  few = sound.few;
+  placed = sound.placed;
+  begun = sound.begun;
+  first = sound.first;
+  past = λ place row e. (let before : row.at ≤ state.time = sound.past place row e in omega arith);
+  texts = sound.texts;
+  events = sound.events;
+}
+
+-- a sound view stays sound with a row that may follow
+pub sound_with : (state : ViewState) (new : Row) → IsSound state → MayFollow state new → IsSound (with_next state new)
+sound_with state new sound follows = record {
+  clock = sound.clock;
+  few = (let length_is : length (state.rows ++ new ∷ []) ≡ length state.rows + 1 = length-append state.rows (new ∷ []) in let few : length state.rows + 1 < 10 ^ 16 = follows.few in omega arith);
+  placed = λ place row e. elim (row_at-more place state.rows new row e) [
+    | inl old ↦ sound.placed place row old
+    | inr last ↦ ap (λ (r : Row). r.place) (sym last.1) ∙ follows.place ∙ sym last.0
+  ];
+  begun = λ place row e. elim (row_at-more place state.rows new row e) [
+    | inl old ↦ has_begun-before state.rows (new ∷ []) row (sound.begun place row old)
+    | inr last ↦ subst (λ (r : Row). HasBegun (row_at r.object (state.rows ++ new ∷ [])) r) last.1 follows.begun
+  ];
+  first = λ place row e. elim (row_at-more place state.rows new row e) [
+    | inl old ↦ sound.first place row old
+    | inr last ↦ subst (λ (r : Row). r.object ≤ place) last.1 (here place last.0)
+  ];
+  past = λ place row e. elim (row_at-more place state.rows new row e) [
+    | inl old ↦ sound.past place row old
+    | inr last ↦ subst (λ (r : Row). r.at ≤ state.time) last.1 (let now : new.at ≡ state.time = follows.at in omega arith)
+  ];
+  texts = λ place row e. elim (row_at-more place state.rows new row e) [
+    | inl old ↦ sound.texts place row old
+    | inr last ↦ subst (λ (r : Row). list_all is_utf8 (texts_of r.item) ≡ true) last.1 follows.texts
+  ];
+  events = λ place row event e is. elim (row_at-more place state.rows new row e) [
+    | inl old ↦ ((sound.events place row event old is).0, has_subject-before state.rows (new ∷ []) row event (sound.events place row event old is).1)
+    | inr last ↦ told place row event last.0 (subst (λ (r : Row). (event : Event) → r.item ≡ item.Event event → HasSubject (row_at event.object state.rows) r event) last.1 follows.events event is)
+  ];
+}
+  where
+    here : (place : ℕ) → place ≡ length state.rows + 1 → new.object ≤ place
+    here place at = let a : new.place ≡ length state.rows + 1 = follows.place in let b : new.object ≤ new.place = follows.first in omega arith
+
+    told : (place : ℕ) (row : Row) (event : Event) → place ≡ length state.rows + 1 → HasSubject (row_at event.object state.rows) row event → (event.object < place) × HasSubject (row_at event.object (state.rows ++ new ∷ [])) row event
+    told place row event at h = (let within : event.object ≤ length state.rows = subject_within state.rows row event h in omega arith, has_subject-before state.rows (new ∷ []) row event h)
+
+-- a version found among rows is the one found before or one of them, of the object
+found_among : (object : ℕ) (found : Option Row) (rows : List Row) (row : Row) → fold (later_version object) found rows ≡ Some row → (found ≡ Some row) ⊎ ((i : ℕ) × (slice_get rows i ≡ Some row) × (row.object ≡ object))
+found_among object found [] row e = inl e
+found_among object found (x ∷ rows) row e = elim (found_among object (later_version object found x) rows row e) [
+  | inl here ↦ elim (picked (eqb x.object object) (Some x) found (Some row) here) [
+    | inl q ↦ inr (0, q.1, of_object x row (eqb-true x.object object q.0) q.1)
+    | inr q ↦ inl q.1
+  ]
+  | inr there ↦ inr (suc there.0, there.1, there.2)
+]
+  where
+    of_object : (x row : Row) → x.object ≡ object → Some x ≡ Some row → row.object ≡ object
+    of_object x row o same = let e : x ≡ row = cc in ap (λ (r : Row). r.object) (sym e) ∙ o
+
+-- the present version of an object stands at its place, and is of the object
+pub latest_of_sound : (state : ViewState) (object : ℕ) (row : Row) → IsSound state → latest_of object state.rows ≡ Some row → (row_at row.place state.rows ≡ Some row) × (row.object ≡ object)
+latest_of_sound state object row sound e = elim (found_among object None state.rows row e) [
+  | inl none ↦ absurd (cc)
+  | inr there ↦ at there.0 there.1 there.2
+]
+  where
+    at : (i : ℕ) → slice_get state.rows i ≡ Some row → row.object ≡ object → (row_at row.place state.rows ≡ Some row) × (row.object ≡ object)
+    at i found o =
+        let before : i ≡ (i + 1) - 1 = omega arith in
+        let place : row_at (i + 1) state.rows ≡ Some row = is_row_at (i + 1) state.rows row (λ z. omega arith) (subst (λ j. slice_get state.rows j ≡ Some row) before found) in
+        (subst (λ p. row_at p state.rows ≡ Some row) (sym (sound.placed (i + 1) row place)) place, o)

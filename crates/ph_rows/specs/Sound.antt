@@ -1,0 +1,71 @@
+-- What holds of the rows of every legal history.
+use Rattle.std.specs.Prelude.{◌≡◌, ℕ, ◌+◌, ◌^◌, ◌≤◌, ◌<◌, true, [], ◌∷◌, ◌++◌, Option, None, Some, length}
+use Rattle.std.specs.List.{list_all}
+use Rattle.std.specs.Str.{is_utf8}
+use Rattle.ph_rows.specs.declared.rows.Row.{Row}
+use Rattle.ph_rows.specs.declared.items.Item.TheVariants as item
+use Rattle.ph_rows.specs.declared.events.Event.{Event}
+use Rattle.ph_rows.specs.Kinds.{kind_of}
+use Rattle.ph_rows.specs.Words.{subject_of}
+use Rattle.ph_rows.specs.Rows.{row_at}
+use Rattle.ph_rows.specs.Views.{ViewState}
+use Rattle.ph_rows.specs.Weights.{texts_of}
+
+-- the last moment that a clock shows: the end of the year 9999
+abbrev pub clock_limit : ℕ
+clock_limit = 253402300799
+
+-- a row is a version of the object that another row begins
+pub record IsVersionOf (first row : Row) : Type 0 where
+  pub object : first.object ≡ row.object
+  pub account : first.account ≡ row.account
+  pub kind : kind_of first.item ≡ kind_of row.item
+
+-- a row is a version of the object that begins here, and one does
+abbrev pub HasBegun : Option Row → Row → Type 0
+HasBegun None row = ⊥
+HasBegun (Some first) row = IsVersionOf first row
+
+-- the row of an event speaks of the object that another row begins: of the kind of the event's type, and of the same account
+pub record SpeaksOf (first row : Row) (event : Event) : Type 0 where
+  pub object : first.object ≡ event.object
+  pub kind : kind_of first.item ≡ subject_of event.sort
+  pub account : first.account ≡ row.account
+
+-- the row of an event speaks of the object that begins here, and one does
+abbrev pub HasSubject : Option Row → Row → Event → Type 0
+HasSubject None row event = ⊥
+HasSubject (Some first) row event = SpeaksOf first row event
+
+-- what holds of the rows and the time of every legal history
+pub record IsSound (state : ViewState) : Type 0 where
+  -- the time is one that a clock shows
+  pub clock : state.time ≤ clock_limit
+  -- sixteen digits number the rows
+  pub few : length state.rows < 10 ^ 16
+  -- a row's place is its position
+  pub placed : (place : ℕ) (row : Row) → row_at place state.rows ≡ Some row → row.place ≡ place
+  -- the row of an object's number is its first version; every version is of its account and its kind
+  pub begun : (place : ℕ) (row : Row) → row_at place state.rows ≡ Some row → HasBegun (row_at row.object state.rows) row
+  -- no version of an object stands before its first one
+  pub first : (place : ℕ) (row : Row) → row_at place state.rows ≡ Some row → row.object ≤ place
+  -- no row is of a later time
+  pub past : (place : ℕ) (row : Row) → row_at place state.rows ≡ Some row → row.at ≤ state.time
+  -- every text is UTF-8
+  pub texts : (place : ℕ) (row : Row) → row_at place state.rows ≡ Some row → list_all is_utf8 (texts_of row.item) ≡ true
+  -- an event stands after the first version of its object, which is of its account and of the kind that its type speaks of
+  pub events : (place : ℕ) (row : Row) (event : Event) → row_at place state.rows ≡ Some row → row.item ≡ item.Event event → (event.object < place) × HasSubject (row_at event.object state.rows) row event
+
+-- the view with one row more
+abbrev pub with_next : ViewState → Row → ViewState
+with_next state row = record state { rows = state.rows ++ row ∷ [] }
+
+-- a row that an entry may add to a view: at the next place and the view's time, of a new object or a further version of one
+pub record MayFollow (state : ViewState) (row : Row) : Type 0 where
+  pub few : length state.rows + 1 < 10 ^ 16
+  pub place : row.place ≡ length state.rows + 1
+  pub at : row.at ≡ state.time
+  pub begun : HasBegun (row_at row.object (state.rows ++ row ∷ [])) row
+  pub first : row.object ≤ row.place
+  pub texts : list_all is_utf8 (texts_of row.item) ≡ true
+  pub events : (event : Event) → row.item ≡ item.Event event → HasSubject (row_at event.object state.rows) row event

@@ -1,0 +1,44 @@
+-- What rows weigh: 256 each, and the lengths of their texts.
+use Rattle.std.specs.Prelude.{ℕ, ◌+◌, List, [], ◌∷◌, Option, None, Some, length}
+use Rattle.ph_rows.specs.declared.rows.Row.{Row}
+use Rattle.ph_rows.specs.declared.items.Item.{Item}
+use Rattle.ph_rows.specs.declared.items.Item.TheVariants as item
+use Rattle.ph_rows.specs.declared.metadata_pairs.MetadataPair.{MetadataPair}
+use Rattle.ph_rows.specs.declared.payment_methods.PaymentMethod.{PaymentMethod}
+
+-- the texts with one in front of them, where there is one
+abbrev pub with_text : Option (List ℕ) → List (List ℕ) → List (List ℕ)
+with_text None texts = texts
+with_text (Some text) texts = text ∷ texts
+
+-- the name of a payment method, where there is one
+abbrev pub method_text : Option PaymentMethod → Option (List ℕ)
+method_text None = None
+method_text (Some method) = Some method.text
+
+-- the names and the texts of metadata
+abbrev pub metadata_texts : List MetadataPair → List (List ℕ)
+metadata_texts [] = []
+metadata_texts (pair ∷ pairs) = pair.key ∷ pair.value ∷ metadata_texts pairs
+
+-- the texts of an item: what it keeps of the words of a request. What is chosen from a list, and what is derived, is no text
+abbrev pub texts_of : Item → List (List ℕ)
+texts_of (item.Account account) = with_text account.email (metadata_texts account.metadata)
+texts_of (item.Intent intent) =
+    with_text (method_text intent.payment_method)
+    (with_text intent.description (with_text intent.transfer_group (metadata_texts intent.metadata)))
+texts_of (item.Event event) = with_text event.key []
+
+-- the lengths of texts together
+abbrev pub total_length : List (List ℕ) → ℕ
+total_length [] = 0
+total_length (text ∷ texts) = length text + total_length texts
+
+-- what a row weighs
+abbrev pub row_weight : Row → ℕ
+row_weight row = 256 + total_length (texts_of row.item)
+
+-- what rows weigh together
+abbrev pub rows_weight : List Row → ℕ
+rows_weight [] = 0
+rows_weight (row ∷ rows) = row_weight row + rows_weight rows

@@ -1,0 +1,29 @@
+//! What moves a balance.
+ghost use Rattle.std.specs.Prelude.{◌≡◌, Option, None};
+
+use crate::items::Item;
+use ph_money::Currency;
+
+/// What a transaction moves on the balance of its account.
+#[derive(Clone, Copy, Debug, PartialEq, Eq)]
+pub struct Movement {
+    pub currency: Currency,
+    /// The amount less the fee, in minor units of the currency; what is taken is below 0.
+    pub net: i32,
+    /// The moment from which it counts as available, in seconds since 1970.
+    pub available_on: u64,
+}
+
+impl Item {
+    ghost use Rattle.std.specs.Prelude.{◌≡◌};
+    ghost use Rattle.ph_rows.specs.Balances.{movement_of};
+
+    /// What the item moves on its account's balance: of the kinds that are built, none does.
+    pub fn movement(&self) -> Option<Movement>
+        ensures { result ≡ movement_of self.now }
+    {
+        match self {
+            Item::Account(_) | Item::Intent(_) | Item::Event(_) => None,
+        }
+    }
+}
