@@ -4,8 +4,13 @@ use ph_io::{MemSink, MemSource};
 use std::alloc::Global;
 use std::test::Fail;
 
+const NOTHING: &[u8] = b"";
+
 const CREATE: &[u8] =
     b"POST /v1/payment_intents HTTP/1.1\r\nHost: localhost\r\nAuthorization: Bearer sk_test_payhost\r\nContent-Length: 24\r\n\r\namount=2000&currency=usd";
+// One byte short.
+const CREATE_CUT: &[u8] =
+    b"POST /v1/payment_intents HTTP/1.1\r\nHost: localhost\r\nAuthorization: Bearer sk_test_payhost\r\nContent-Length: 24\r\n\r\namount=2000&currency=us";
 
 const RETRIEVE: &[u8] =
     b"GET /v1/payment_intents/pi_0000000000000002 HTTP/1.1\r\nHost: localhost\r\nAuthorization: Bearer sk_test_payhost\r\n\r\n";
@@ -90,9 +95,8 @@ fn run(
 #[test]
 fn sessions_in_any_pieces(rt: HostRuntime) -> Result<(), Fail> {
     let alloc = rt.alloc();
-    let cut = &CREATE[..CREATE.len() - 1];
     let sessions: [(&str, &[&[u8]], u8, &[&[u8]]); 8] = [
-        ("nothing", &[], 0, &[]),
+        ("nothing", &[NOTHING], 0, &[NOTHING]),
         ("a create", &[CREATE], 0, &[INTENT]),
         (
             "a create and its retrieve",
@@ -106,10 +110,10 @@ fn sessions_in_any_pieces(rt: HostRuntime) -> Result<(), Fail> {
             0,
             &[INTENT, MISSING],
         ),
-        ("a create one byte short", &[cut], 5, &[]),
+        ("a create one byte short", &[CREATE_CUT], 5, &[NOTHING]),
         (
             "a retrieve and half a create",
-            &[RETRIEVE, cut],
+            &[RETRIEVE, CREATE_CUT],
             5,
             &[MISSING],
         ),
