@@ -5,4 +5,5 @@ pub mod IndexLemmas
 pub mod MapLemmas
 pub mod OrderLaw
 pub mod OrderLemmas
+pub mod TreeLaw
 pub mod Utf8Lemmas

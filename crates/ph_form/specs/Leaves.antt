@@ -5,7 +5,7 @@ use Rattle.std.specs.Fmt.{decimal}
 use Rattle.ph_form.specs.declared.leaf.Leaf.{Leaf}
 use Rattle.ph_form.specs.declared.fault.FormFault.{FormFault}
 use Rattle.ph_form.specs.declared.fault.FormFault.TheVariants.{BadName, Clash, TooDeep}
-use Rattle.ph_form.specs.Names.{base_of, keys_of, child, is_within}
+use Rattle.ph_form.specs.Names.{base_of, keys_of, child, is_below, is_within}
 use Rattle.ph_form.specs.Order.{put}
 
 -- no name so far continues the beginning with this number
@@ -62,3 +62,7 @@ leaves_of pairs = leaves_from 0 (Ok []) pairs
 -- a key of the pair's name is empty
 abbrev pub has_empty_key : List ℕ × List ℕ → Bool
 has_empty_key pair = list_any (λ key. length key == 0) (unwrap_or (keys_of pair.0) [])
+
+-- no leaf lies below another
+abbrev pub is_tree : List Leaf → Bool
+is_tree leaves = not (list_any (λ upper. list_any (λ leaf. is_below upper.name leaf.name) leaves) leaves)
