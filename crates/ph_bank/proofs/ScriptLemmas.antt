@@ -1,13 +1,12 @@
 -- A link in memory meets the rules of a link.
-use Rattle.std.proofs.Common.{◌≡◌, ℕ, ◌+◌, ◌-◌, ◌^◌, ◌<◌, ◌≤◌, ◌==◌, ◌⊎◌, inl, inr, min, Bool, true, false, cond, List, [], ◌∷◌, ◌++◌, length, Option, Some, None, Result, Ok, Err, refl, sym, ap, ◌∙◌, subst, arith, rules}
-use Rattle.std.proofs.lemmas.Bool.Decides.{nat_tests}
+use Rattle.std.proofs.Common.{◌≡◌, ℕ, ◌^◌, ◌<◌, ◌==◌, inr, Bool, true, false, List, [], ◌∷◌, ◌++◌, Option, Some, None, refl, arith}
 use Rattle.ph_base.specs.declared.acquirer.Ruling.{Ruling}
 use Rattle.ph_rows.specs.declared.orders.Order.{Order}
 use Rattle.ph_bank.specs.declared.memory.Cue.{Cue}
 use Rattle.ph_bank.specs.declared.memory.Cue.TheVariants as cue
 use Rattle.ph_bank.specs.declared.memory.Decision.{Decision}
 use Rattle.ph_bank.specs.Links.{AsksOnce, decision_in}
-use Rattle.ph_bank.specs.Scripts.{Script, after_ask, and_decision, answer_by, answer_on, answer_to, asked_on, decided_by, link_of, next_cue, ruling_of}
+use Rattle.ph_bank.specs.Scripts.{Script, and_decision, answer_by, answer_on, asked_on, decided_by, link_of, ruling_of}
 
 decision_in-answer_by : (decision : Option Ruling) → decision ≡ decision_in (answer_by decision)
 decision_in-answer_by None = refl

@@ -1,19 +1,17 @@
 -- The simulated acquirer meets the rules of a link, and its laws.
-use Rattle.std.proofs.Common.{◌≡◌, ℕ, zero, suc, ◌+◌, ◌-◌, ◌^◌, ◌<◌, ◌≤◌, ◌==◌, ◌⊎◌, inl, inr, min, Bool, true, false, not, ◌&&◌, cond, nat_lt, List, [], ◌∷◌, ◌++◌, length, drop, take, set, get_or, Option, Some, None, Result, Ok, Err, refl, sym, ap, ◌∙◌, subst, arith, rules}
+use Rattle.std.proofs.Common.{◌≡◌, ℕ, zero, suc, ◌+◌, ◌^◌, ◌<◌, ◌≤◌, ◌==◌, inl, Bool, true, false, ◌&&◌, nat_lt, List, [], ◌∷◌, ◌++◌, length, drop, take, set, get_or, None, Result, Ok, Err, refl, sym, ap, ◌∙◌, arith}
 use Rattle.std.proofs.lemmas.Bool.Decides.{nat_tests}
-use Rattle.std.proofs.lemmas.List.{append_assoc, at_drop_more, length-append, length-drop, length-take, set_split, take_all, take_at, take_more_set}
+use Rattle.std.proofs.lemmas.List.{at_drop_more, length-append, length-drop, length-take, set_split, take_all, take_at, take_more_set}
 use Rattle.ph_base.specs.declared.acquirer.Method.{Method}
 use Rattle.ph_base.specs.declared.acquirer.Method.TheVariants as method
-use Rattle.ph_base.specs.declared.acquirer.Ruling.{Ruling}
 use Rattle.ph_rows.specs.declared.orders.Order.{Order}
 use Rattle.ph_bank.specs.declared.asking.Asked.{Asked}
-use Rattle.ph_bank.specs.declared.asking.Asked.TheVariants.{Pending, Ruled}
 use Rattle.ph_bank.specs.declared.asking.AskFailed.{AskFailed}
 use Rattle.ph_bank.specs.declared.simulated.Remembered.{Remembered}
 use Rattle.ph_bank.specs.Laws.{IsAnsweredAlike, drops_oldest, is_oldest}
 use Rattle.ph_bank.specs.Links.{AsksOnce}
 use Rattle.ph_bank.specs.Patiences.{next_count}
-use Rattle.ph_bank.specs.Simulation.{IsPlace, Simulated, after_ask, answer_to, count_of, counted, faults_after, first_asked, is_remembered, link_of, memory_after, simulated_answer}
+use Rattle.ph_bank.specs.Simulation.{IsPlace, Simulated, after_ask, answer_to, count_of, counted, faults_after, is_remembered, link_of, memory_after}
 
 -- ---- the rules of a link
 

@@ -1,9 +1,8 @@
 -- How the simulated acquirer rules, and what it remembers.
-use Rattle.std.specs.Prelude.{◌≡◌, ℕ, ◌<◌, ◌==◌, ◌++◌, slice_set, Bool, true, false, List, [], ◌∷◌, length, drop, nat_lt, if◌then◌else◌, Option, Some, None, Result, Ok, Err}
+use Rattle.std.specs.Prelude.{◌≡◌, ℕ, ◌<◌, ◌==◌, ◌++◌, slice_set, Bool, true, false, List, [], ◌∷◌, length, drop, nat_lt, if◌then◌else◌, None, Result, Ok, Err}
 use Rattle.ph_base.specs.declared.acquirer.Method.{Method}
 use Rattle.ph_base.specs.declared.acquirer.Method.TheVariants as method
 use Rattle.ph_base.specs.declared.acquirer.Decline.TheVariants as decline
-use Rattle.ph_base.specs.declared.acquirer.Ruling.{Ruling}
 use Rattle.ph_base.specs.declared.acquirer.Ruling.TheVariants.{Approved, Declined, Challenge}
 use Rattle.ph_rows.specs.declared.orders.Order.{Order}
 use Rattle.ph_bank.specs.declared.asking.Asked.{Asked}

@@ -1,4 +1,4 @@
-use Rattle.std.proofs.Common.{◌≡◌, ap, ◌∙◌, sym, arith, rules}
+use Rattle.std.proofs.Common.{◌≡◌, ap, ◌∙◌, arith, rules}
 use Rattle.ph_attempts.specs.declared.flights.Flight.{Flight}
 use Rattle.ph_bank.specs.Patiences.{Granted}
 use Rattle.ph_bank.proofs.DriveLemmas.{drive_gave_up, drive_ready, waiting_more}

@@ -1,4 +1,4 @@
-use Rattle.std.proofs.Common.{◌≡◌, ℕ}
+use Rattle.std.proofs.Common.{◌≡◌}
 use Rattle.ph_bank.proofs.DriveLemmas.{Waiting}
 use Rattle.ph_bank.proofs.driving.drive.Given as goal
 

@@ -1,4 +1,4 @@
-use Rattle.std.proofs.Common.{◌≡◌, List, ap, ◌∙◌, sym, arith}
+use Rattle.std.proofs.Common.{List, ap}
 use Rattle.ph_bank.specs.declared.simulated.Remembered.{Remembered}
 use Rattle.ph_bank.specs.Simulation.{Simulated}
 use Rattle.ph_bank.proofs.SimulationLemmas.{remember_again, remember_oldest}
