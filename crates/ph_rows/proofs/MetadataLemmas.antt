@@ -27,12 +27,14 @@ behind : (first second : List ℕ) → name_cmp first second ≡ Greater → is_
 behind first second h = ap is_lt (nat_list_cmp_total.antisymm second first ∙ ap ordering_reverse h)
 
 -- equal names stand alike before the others
-alike : (first second : List ℕ) (pairs : List MetadataPair) → name_cmp first second ≡ Equal → is_before second pairs ≡ true → is_before first pairs ≡ true
+alike : (first second : List ℕ) (pairs : List MetadataPair) → name_cmp first second ≡ Equal
+    → is_before second pairs ≡ true → is_before first pairs ≡ true
 alike first second [] e h = refl
 alike first second (pair ∷ pairs) e h = ap is_lt (nat_list_cmp_total.congr first second pair.key e) ∙ h
 
 -- a name that stands before a pair and the others stands before them with the pair put in
-before_with : (name : List ℕ) (new : MetadataPair) (pairs : List MetadataPair) → name_cmp new.key name ≡ Greater → is_before name pairs ≡ true → is_before name (with_pair new pairs) ≡ true
+before_with : (name : List ℕ) (new : MetadataPair) (pairs : List MetadataPair) → name_cmp new.key name ≡ Greater
+    → is_before name pairs ≡ true → is_before name (with_pair new pairs) ≡ true
 before_with name new [] above h = behind new.key name above
 before_with name new (pair ∷ pairs) above h = at (name_cmp new.key pair.key)
   where
@@ -42,23 +44,27 @@ before_with name new (pair ∷ pairs) above h = at (name_cmp new.key pair.key)
     at Greater = h
 
 -- ordered pairs stay ordered with one more
-pub stays_ordered : (new : MetadataPair) (pairs : List MetadataPair) → are_ordered pairs ≡ true → are_ordered (with_pair new pairs) ≡ true
+pub stays_ordered : (new : MetadataPair) (pairs : List MetadataPair) → are_ordered pairs ≡ true
+    → are_ordered (with_pair new pairs) ≡ true
 stays_ordered new [] h = refl
 stays_ordered new (pair ∷ pairs) h = at (stays_ordered new pairs (second_of (is_before pair.key pairs) (are_ordered pairs) h)) (name_cmp new.key pair.key) refl
   where
-    at : are_ordered (with_pair new pairs) ≡ true → (o : Ordering) → name_cmp new.key pair.key ≡ o → are_ordered (placed_pair o new pair pairs (with_pair new pairs)) ≡ true
+    at : are_ordered (with_pair new pairs) ≡ true → (o : Ordering) → name_cmp new.key pair.key ≡ o
+        → are_ordered (placed_pair o new pair pairs (with_pair new pairs)) ≡ true
     at further Less e = both (is_lt (name_cmp new.key pair.key)) (are_ordered (pair ∷ pairs)) (ap is_lt e) h
     at further Equal e = both (is_before new.key pairs) (are_ordered pairs) (alike new.key pair.key pairs e (first_of (is_before pair.key pairs) (are_ordered pairs) h)) (second_of (is_before pair.key pairs) (are_ordered pairs) h)
     at further Greater e = both (is_before pair.key (with_pair new pairs)) (are_ordered (with_pair new pairs)) (before_with pair.key new pairs e (first_of (is_before pair.key pairs) (are_ordered pairs) h)) further
 
 -- a pair put in the place of another
-set_at : (pairs : List MetadataPair) (place : ℕ) (new : MetadataPair) → place < length pairs → slice_set pairs place new ≡ take place pairs ++ new ∷ drop (suc place) pairs
+set_at : (pairs : List MetadataPair) (place : ℕ) (new : MetadataPair) → place < length pairs
+    → slice_set pairs place new ≡ take place pairs ++ new ∷ drop (suc place) pairs
 set_at [] place new h = absurd (omega arith)
 set_at (pair ∷ pairs) zero new h = refl
 set_at (pair ∷ pairs) (suc place) new h = ap (λ others. pair ∷ others) (set_at pairs place new (omega arith))
 
 -- a pair put in the place of the one of its name
-pub replaced : (new : MetadataPair) (pairs : List MetadataPair) (place : ℕ) (pair : MetadataPair) → place < length pairs → pair ≡ get_or pairs place pair → name_cmp new.key pair.key ≡ Equal
+pub replaced : (new : MetadataPair) (pairs : List MetadataPair) (place : ℕ) (pair : MetadataPair)
+    → place < length pairs → pair ≡ get_or pairs place pair → name_cmp new.key pair.key ≡ Equal
     → with_pair new pairs ≡ take place pairs ++ with_pair new (drop place pairs) → slice_set pairs place new ≡ with_pair new pairs
 replaced new pairs place pair within here same further =
     let rest : List MetadataPair = drop (suc place) pairs in

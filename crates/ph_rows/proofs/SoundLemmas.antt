@@ -3,7 +3,7 @@ use Rattle.std.proofs.Common.{◌≡◌, ℕ, zero, suc, ◌+◌, ◌-◌, ◌^�
 use Rattle.std.specs.List.{fold, list_all}
 use Rattle.std.specs.Str.{is_utf8}
 use Rattle.std.proofs.lemmas.Bool.{eqb-true, eqb-false, cond-false, ne_eqb}
-use Rattle.std.proofs.lemmas.List.{length-append}
+use Rattle.std.proofs.lemmas.List.{length-append, append-nil, append_assoc}
 use Rattle.std.proofs.lemmas.Option.{slice_get_within}
 use Rattle.ph_rows.specs.declared.rows.Row.{Row}
 use Rattle.ph_rows.specs.declared.items.Item.TheVariants as item
@@ -11,7 +11,7 @@ use Rattle.ph_rows.specs.declared.events.Event.{Event}
 use Rattle.ph_rows.specs.Rows.{row_at, later_version, latest_of}
 use Rattle.ph_rows.specs.Views.{ViewState}
 use Rattle.ph_rows.specs.Weights.{texts_of}
-use Rattle.ph_rows.specs.Sound.{clock_limit, HasBegun, HasSubject, IsSound, with_next, MayFollow}
+use Rattle.ph_rows.specs.Sound.{clock_limit, HasBegun, HasSubject, IsSound, with_next, MayFollow, AllMayFollow}
 
 -- which of two was chosen
 pub picked : {A : Type 0} (b : Bool) (x y z : A) → cond b x y ≡ z → ((b ≡ true) × (x ≡ z)) ⊎ ((b ≡ false) × (y ≡ z))
@@ -19,7 +19,8 @@ picked true x y z e = inl (refl, e)
 picked false x y z e = inr (refl, e)
 
 -- an element stays where it is with more elements behind
-slice_get-before : (rows more : List Row) (i : ℕ) (row : Row) → slice_get rows i ≡ Some row → slice_get (rows ++ more) i ≡ Some row
+slice_get-before : (rows more : List Row) (i : ℕ) (row : Row) → slice_get rows i ≡ Some row
+    → slice_get (rows ++ more) i ≡ Some row
 slice_get-before [] more i row e = absurd (cc)
 slice_get-before (x ∷ rows) more zero row e = e
 slice_get-before (x ∷ rows) more (suc i) row e = slice_get-before rows more i row e
@@ -30,14 +31,16 @@ slice_get-next [] new = refl
 slice_get-next (x ∷ rows) new = slice_get-next rows new
 
 -- an element with one more behind is one of the others or that one
-slice_get-more : (rows : List Row) (new : Row) (i : ℕ) (row : Row) → slice_get (rows ++ new ∷ []) i ≡ Some row → (slice_get rows i ≡ Some row) ⊎ ((i ≡ length rows) × (new ≡ row))
+slice_get-more : (rows : List Row) (new : Row) (i : ℕ) (row : Row) → slice_get (rows ++ new ∷ []) i ≡ Some row
+    → (slice_get rows i ≡ Some row) ⊎ ((i ≡ length rows) × (new ≡ row))
 slice_get-more [] new zero row e = inr (refl, cc)
 slice_get-more [] new (suc i) row e = absurd (cc)
 slice_get-more (x ∷ rows) new zero row e = inl e
 slice_get-more (x ∷ rows) new (suc i) row e = elim (slice_get-more rows new i row e) [ inl old ↦ inl old | inr last ↦ inr (ap suc last.0, last.1) ]
 
 -- the row of a place is the element before it
-row_at-is : (place : ℕ) (rows : List Row) (row : Row) → row_at place rows ≡ Some row → ((place ≡ 0) → ⊥) × (slice_get rows (place - 1) ≡ Some row)
+row_at-is : (place : ℕ) (rows : List Row) (row : Row) → row_at place rows ≡ Some row
+    → ((place ≡ 0) → ⊥) × (slice_get rows (place - 1) ≡ Some row)
 row_at-is place rows row e =
     elim (picked (eqb place 0) None (slice_get rows (place - 1)) (Some row) e) [
       | inl q ↦ (let clash : None ≡ Some row = q.1 in absurd (cc))
@@ -45,11 +48,13 @@ row_at-is place rows row e =
     ]
 
 -- the element before a place is its row
-is_row_at : (place : ℕ) (rows : List Row) (row : Row) → ((place ≡ 0) → ⊥) → slice_get rows (place - 1) ≡ Some row → row_at place rows ≡ Some row
+is_row_at : (place : ℕ) (rows : List Row) (row : Row) → ((place ≡ 0) → ⊥) → slice_get rows (place - 1) ≡ Some row
+    → row_at place rows ≡ Some row
 is_row_at place rows row some e = cond-false (eqb place 0) None (slice_get rows (place - 1)) (ne_eqb place 0 some) ∙ e
 
 -- the row of a place stays with more rows behind
-pub row_at-before : (place : ℕ) (rows more : List Row) (row : Row) → row_at place rows ≡ Some row → row_at place (rows ++ more) ≡ Some row
+pub row_at-before : (place : ℕ) (rows more : List Row) (row : Row) → row_at place rows ≡ Some row
+    → row_at place (rows ++ more) ≡ Some row
 row_at-before place rows more row e =
     let found : ((place ≡ 0) → ⊥) × (slice_get rows (place - 1) ≡ Some row) = row_at-is place rows row e in
     is_row_at place (rows ++ more) row found.0 (slice_get-before rows more (place - 1) row found.1)
@@ -61,7 +66,8 @@ row_at-next rows new =
     is_row_at (length rows + 1) (rows ++ new ∷ []) new (λ e. omega arith) (subst (λ i. slice_get (rows ++ new ∷ []) i ≡ Some new) last (slice_get-next rows new))
 
 -- a place that has a row is one of the places
-pub row_at_within : (place : ℕ) (rows : List Row) (row : Row) → row_at place rows ≡ Some row → (0 < place) × (place ≤ length rows)
+pub row_at_within : (place : ℕ) (rows : List Row) (row : Row) → row_at place rows ≡ Some row
+    → (0 < place) × (place ≤ length rows)
 row_at_within place rows row e =
     let found : ((place ≡ 0) → ⊥) × (slice_get rows (place - 1) ≡ Some row) = row_at-is place rows row e in
     let some : (place ≡ 0) → ⊥ = found.0 in
@@ -69,10 +75,12 @@ row_at_within place rows row e =
     (omega arith, omega arith)
 
 -- with one row more, the row of a place is an earlier one or that one
-pub row_at-more : (place : ℕ) (rows : List Row) (new row : Row) → row_at place (rows ++ new ∷ []) ≡ Some row → (row_at place rows ≡ Some row) ⊎ ((place ≡ length rows + 1) × (new ≡ row))
+pub row_at-more : (place : ℕ) (rows : List Row) (new row : Row) → row_at place (rows ++ new ∷ []) ≡ Some row
+    → (row_at place rows ≡ Some row) ⊎ ((place ≡ length rows + 1) × (new ≡ row))
 row_at-more place rows new row e = at (row_at-is place (rows ++ new ∷ []) row e)
   where
-    at : ((place ≡ 0) → ⊥) × (slice_get (rows ++ new ∷ []) (place - 1) ≡ Some row) → (row_at place rows ≡ Some row) ⊎ ((place ≡ length rows + 1) × (new ≡ row))
+    at : ((place ≡ 0) → ⊥) × (slice_get (rows ++ new ∷ []) (place - 1) ≡ Some row)
+        → (row_at place rows ≡ Some row) ⊎ ((place ≡ length rows + 1) × (new ≡ row))
     at found =
         let some : (place ≡ 0) → ⊥ = found.0 in
         elim (slice_get-more rows new (place - 1) row found.1) [
@@ -81,7 +89,8 @@ row_at-more place rows new row e = at (row_at-is place (rows ++ new ∷ []) row 
         ]
 
 -- an object that has begun has begun with more rows behind
-has_begun-before : (rows more : List Row) (row : Row) → HasBegun (row_at row.object rows) row → HasBegun (row_at row.object (rows ++ more)) row
+has_begun-before : (rows more : List Row) (row : Row) → HasBegun (row_at row.object rows) row
+    → HasBegun (row_at row.object (rows ++ more)) row
 has_begun-before rows more row h = at (row_at row.object rows) refl h
   where
     at : (o : Option Row) → row_at row.object rows ≡ o → HasBegun o row → HasBegun (row_at row.object (rows ++ more)) row
@@ -89,15 +98,18 @@ has_begun-before rows more row h = at (row_at row.object rows) refl h
     at (Some first) e h = subst (λ o. HasBegun o row) (sym (row_at-before row.object rows more first e)) h
 
 -- an event that has a subject has it with more rows behind
-has_subject-before : (rows more : List Row) (row : Row) (event : Event) → HasSubject (row_at event.object rows) row event → HasSubject (row_at event.object (rows ++ more)) row event
+has_subject-before : (rows more : List Row) (row : Row) (event : Event)
+    → HasSubject (row_at event.object rows) row event → HasSubject (row_at event.object (rows ++ more)) row event
 has_subject-before rows more row event h = at (row_at event.object rows) refl h
   where
-    at : (o : Option Row) → row_at event.object rows ≡ o → HasSubject o row event → HasSubject (row_at event.object (rows ++ more)) row event
+    at : (o : Option Row) → row_at event.object rows ≡ o → HasSubject o row event
+        → HasSubject (row_at event.object (rows ++ more)) row event
     at None e h = absurd h
     at (Some first) e h = subst (λ o. HasSubject o row event) (sym (row_at-before event.object rows more first e)) h
 
 -- the subject of an event stands among the rows
-subject_within : (rows : List Row) (row : Row) (event : Event) → HasSubject (row_at event.object rows) row event → event.object ≤ length rows
+subject_within : (rows : List Row) (row : Row) (event : Event) → HasSubject (row_at event.object rows) row event
+    → event.object ≤ length rows
 subject_within rows row event h = at (row_at event.object rows) refl h
   where
     at : (o : Option Row) → row_at event.object rows ≡ o → HasSubject o row event → event.object ≤ length rows
@@ -167,11 +179,15 @@ sound_with state new sound follows = record {
     here : (place : ℕ) → place ≡ length state.rows + 1 → new.object ≤ place
     here place at = let a : new.place ≡ length state.rows + 1 = follows.place in let b : new.object ≤ new.place = follows.first in omega arith
 
-    told : (place : ℕ) (row : Row) (event : Event) → place ≡ length state.rows + 1 → HasSubject (row_at event.object state.rows) row event → (event.object < place) × HasSubject (row_at event.object (state.rows ++ new ∷ [])) row event
+    told : (place : ℕ) (row : Row) (event : Event) → place ≡ length state.rows + 1
+        → HasSubject (row_at event.object state.rows) row event
+        → (event.object < place) × HasSubject (row_at event.object (state.rows ++ new ∷ [])) row event
     told place row event at h = (let within : event.object ≤ length state.rows = subject_within state.rows row event h in omega arith, has_subject-before state.rows (new ∷ []) row event h)
 
 -- a version found among rows is the one found before or one of them, of the object
-found_among : (object : ℕ) (found : Option Row) (rows : List Row) (row : Row) → fold (later_version object) found rows ≡ Some row → (found ≡ Some row) ⊎ ((i : ℕ) × (slice_get rows i ≡ Some row) × (row.object ≡ object))
+found_among : (object : ℕ) (found : Option Row) (rows : List Row) (row : Row)
+    → fold (later_version object) found rows ≡ Some row
+    → (found ≡ Some row) ⊎ ((i : ℕ) × (slice_get rows i ≡ Some row) × (row.object ≡ object))
 found_among object found [] row e = inl e
 found_among object found (x ∷ rows) row e = elim (found_among object (later_version object found x) rows row e) [
   | inl here ↦ elim (picked (eqb x.object object) (Some x) found (Some row) here) [
@@ -185,14 +201,32 @@ found_among object found (x ∷ rows) row e = elim (found_among object (later_ve
     of_object x row o same = let e : x ≡ row = cc in ap (λ (r : Row). r.object) (sym e) ∙ o
 
 -- the present version of an object stands at its place, and is of the object
-pub latest_of_sound : (state : ViewState) (object : ℕ) (row : Row) → IsSound state → latest_of object state.rows ≡ Some row → (row_at row.place state.rows ≡ Some row) × (row.object ≡ object)
+pub latest_of_sound : (state : ViewState) (object : ℕ) (row : Row) → IsSound state
+    → latest_of object state.rows ≡ Some row → (row_at row.place state.rows ≡ Some row) × (row.object ≡ object)
 latest_of_sound state object row sound e = elim (found_among object None state.rows row e) [
   | inl none ↦ absurd (cc)
   | inr there ↦ at there.0 there.1 there.2
 ]
   where
-    at : (i : ℕ) → slice_get state.rows i ≡ Some row → row.object ≡ object → (row_at row.place state.rows ≡ Some row) × (row.object ≡ object)
+    at : (i : ℕ) → slice_get state.rows i ≡ Some row → row.object ≡ object
+        → (row_at row.place state.rows ≡ Some row) × (row.object ≡ object)
     at i found o =
         let before : i ≡ (i + 1) - 1 = omega arith in
         let place : row_at (i + 1) state.rows ≡ Some row = is_row_at (i + 1) state.rows row (λ z. omega arith) (subst (λ j. slice_get state.rows j ≡ Some row) before found) in
         (subst (λ p. row_at p state.rows ≡ Some row) (sym (sound.placed (i + 1) row place)) place, o)
+
+-- the present version of an object is one of the object that its number begins
+pub latest_has_begun : (state : ViewState) (object : ℕ) (row : Row) → IsSound state → latest_of object state.rows ≡ Some row
+    → HasBegun (row_at object state.rows) row
+latest_has_begun state object row sound e =
+    let found : (row_at row.place state.rows ≡ Some row) × (row.object ≡ object) = latest_of_sound state object row sound e in
+    subst (λ o. HasBegun (row_at o state.rows) row) found.1 (sound.begun row.place row found.0)
+
+-- a sound view stays sound with rows that may follow one after another
+pub sound_with_all : (state : ViewState) (rows : List Row) → IsSound state → AllMayFollow state rows
+    → IsSound (record state { rows = state.rows ++ rows })
+sound_with_all state [] sound follow =
+    subst (λ (all : List Row). IsSound (record state { rows = all })) (sym (append-nil state.rows)) sound
+sound_with_all state (row ∷ rows) sound follow =
+    subst (λ (all : List Row). IsSound (record state { rows = all })) (append_assoc state.rows (row ∷ []) rows)
+    (sound_with_all (with_next state row) rows (sound_with state row sound follow.0) follow.1)

@@ -12,6 +12,7 @@ use Rattle.ph_rows.specs.declared.movements.Movement.{Movement}
 abbrev pub movement_of : Item → Option Movement
 movement_of (item.Account account) = None
 movement_of (item.Intent intent) = None
+movement_of (item.Attempt attempt) = None
 movement_of (item.Event event) = None
 
 -- the place of a currency in the list of currencies
@@ -34,11 +35,13 @@ net_of (movement ∷ movements) = movement.net +ℤ net_of movements
 
 -- whether a movement counts at a time: for the available balance, or (false) for the pending one
 abbrev pub counts : Bool → ℕ → Movement → Bool
-counts available time movement = if available then nat_le movement.available_on time else nat_lt time movement.available_on
+counts available time movement =
+    if available then nat_le movement.available_on time else nat_lt time movement.available_on
 
 -- the available or (false) the pending balance of an account in a currency at a time
 abbrev pub balance_of : Bool → ℕ → Currency → ℕ → List Row → ℤ
-balance_of available account currency time rows = net_of (filter (counts available time) (movements_of account currency rows))
+balance_of available account currency time rows =
+    net_of (filter (counts available time) (movements_of account currency rows))
 
 -- the available balance: what the transactions move that are available by the time
 abbrev pub available_of : ℕ → Currency → ℕ → List Row → ℤ

@@ -23,15 +23,27 @@ empty_batch count at entry = record { began = count; at = at; entry = entry; row
 abbrev pub last_place : BatchState → ℕ
 last_place batch = batch.began + length batch.rows
 
--- the batch with one row more, at the next place: a version of an object
+-- the row of a version of an object, at the next place and the batch's time
+abbrev pub next_row : BatchState → ℕ → ℕ → Item → Row
+next_row batch object account content = record {
+  place = last_place batch + 1;
+  object = object;
+  at = batch.at;
+  account = account;
+  item = content;
+}
+
+-- the batch with one row more: a version of an object
 abbrev pub with_row : BatchState → ℕ → ℕ → Item → BatchState
 with_row batch object account content = record batch {
-  rows = batch.rows ++ record { place = last_place batch + 1; object = object; at = batch.at; account = account; item = content } ∷ [];
+  rows = batch.rows ++ next_row batch object account content ∷ [];
 }
 
 -- the batch with one announcement more
 abbrev pub with_announced : BatchState → EventKind → ℕ → BatchState
-with_announced batch sort object = record batch { announced = batch.announced ++ record { sort = sort; object = object } ∷ [] }
+with_announced batch sort object = record batch {
+  announced = batch.announced ++ record { sort = sort; object = object } ∷ [];
+}
 
 -- the account of a version, or 0, the number of none
 abbrev pub account_of : Option Row → ℕ
@@ -51,8 +63,9 @@ event_row key at rows place told = record {
 -- the rows of events announced of objects with these rows, at the places after a number of rows
 abbrev pub event_rows : Option (List ℕ) → ℕ → List Row → ℕ → List Announced → List Row
 event_rows key at rows count [] = []
-event_rows key at rows count (told ∷ announced) = event_row key at rows (count + 1) told ∷ event_rows key at rows (count + 1) announced
+event_rows key at rows count (told ∷ announced) =
+    event_row key at rows (count + 1) told ∷ event_rows key at rows (count + 1) announced
 
--- the rows that the entry of a batch makes, under the idempotency key of its request: the object rows, then the event rows
+-- the rows that a batch makes, under the idempotency key of its request: the object rows, then the event rows
 abbrev pub made_rows : Option (List ℕ) → BatchState → List Row
 made_rows key batch = batch.rows ++ event_rows key batch.at batch.rows (last_place batch) batch.announced

@@ -9,6 +9,7 @@ use Rattle.ph_rows.specs.declared.items.Item.TheVariants as item
 abbrev pub kind_of : Item → Kind
 kind_of (item.Account account) = kind.Account
 kind_of (item.Intent intent) = kind.Intent
+kind_of (item.Attempt attempt) = kind.Attempt
 kind_of (item.Event event) = kind.Event
 
 -- the place of a kind in the list of kinds

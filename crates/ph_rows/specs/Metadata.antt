@@ -21,7 +21,8 @@ are_ordered [] = true
 are_ordered (pair ∷ pairs) = is_before pair.key pairs && are_ordered pairs
 
 -- a pair beside the one in front of the others, by how their names stand: before it, in its place, or further on
-abbrev pub placed_pair : Ordering → MetadataPair → MetadataPair → List MetadataPair → List MetadataPair → List MetadataPair
+abbrev pub placed_pair : Ordering → MetadataPair → MetadataPair → List MetadataPair → List MetadataPair
+    → List MetadataPair
 placed_pair Less new pair pairs further = new ∷ pair ∷ pairs
 placed_pair Equal new pair pairs further = new ∷ pairs
 placed_pair Greater new pair pairs further = pair ∷ further

@@ -45,16 +45,20 @@ least numbers = fold (λ found number. Some (lesser found number)) None numbers
 
 -- the object of an account and a kind whose number is the greatest below a bound
 abbrev pub newest_object : ℕ → Kind → ℕ → List Row → Option ℕ
-newest_object account kind below rows = greatest (filter (λ number. nat_lt number below) (objects_of account kind rows))
+newest_object account kind below rows =
+    greatest (filter (λ number. nat_lt number below) (objects_of account kind rows))
 
 -- the object of an account and a kind whose number is the least above a bound
 abbrev pub oldest_object : ℕ → Kind → ℕ → List Row → Option ℕ
-oldest_object account kind above rows = least (filter (λ number. nat_lt above number) (objects_of account kind rows))
+oldest_object account kind above rows =
+    least (filter (λ number. nat_lt above number) (objects_of account kind rows))
 
 -- the present version of the newest object of an account and a kind below a bound
 abbrev pub newest_of : ℕ → Kind → ℕ → List Row → Option Row
-newest_of account kind below rows = option_and_then (λ object. latest_of object rows) (newest_object account kind below rows)
+newest_of account kind below rows =
+    option_and_then (λ object. latest_of object rows) (newest_object account kind below rows)
 
 -- the present version of the oldest object of an account and a kind above a bound
 abbrev pub oldest_of : ℕ → Kind → ℕ → List Row → Option Row
-oldest_of account kind above rows = option_and_then (λ object. latest_of object rows) (oldest_object account kind above rows)
+oldest_of account kind above rows =
+    option_and_then (λ object. latest_of object rows) (oldest_object account kind above rows)

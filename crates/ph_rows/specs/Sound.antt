@@ -1,5 +1,5 @@
 -- What holds of the rows of every legal history.
-use Rattle.std.specs.Prelude.{◌≡◌, ℕ, ◌+◌, ◌^◌, ◌≤◌, ◌<◌, true, [], ◌∷◌, ◌++◌, Option, None, Some, length}
+use Rattle.std.specs.Prelude.{◌≡◌, ℕ, ◌+◌, ◌^◌, ◌≤◌, ◌<◌, true, List, [], ◌∷◌, ◌++◌, Option, None, Some, length}
 use Rattle.std.specs.List.{list_all}
 use Rattle.std.specs.Str.{is_utf8}
 use Rattle.ph_rows.specs.declared.rows.Row.{Row}
@@ -26,7 +26,7 @@ abbrev pub HasBegun : Option Row → Row → Type 0
 HasBegun None row = ⊥
 HasBegun (Some first) row = IsVersionOf first row
 
--- the row of an event speaks of the object that another row begins: of the kind of the event's type, and of the same account
+-- the row of an event speaks of the object that another row begins: of its type's kind, and of the same account
 pub record SpeaksOf (first row : Row) (event : Event) : Type 0 where
   pub object : first.object ≡ event.object
   pub kind : kind_of first.item ≡ subject_of event.sort
@@ -53,14 +53,15 @@ pub record IsSound (state : ViewState) : Type 0 where
   pub past : (place : ℕ) (row : Row) → row_at place state.rows ≡ Some row → row.at ≤ state.time
   -- every text is UTF-8
   pub texts : (place : ℕ) (row : Row) → row_at place state.rows ≡ Some row → list_all is_utf8 (texts_of row.item) ≡ true
-  -- an event stands after the first version of its object, which is of its account and of the kind that its type speaks of
-  pub events : (place : ℕ) (row : Row) (event : Event) → row_at place state.rows ≡ Some row → row.item ≡ item.Event event → (event.object < place) × HasSubject (row_at event.object state.rows) row event
+  -- an event stands after the first version of its object, which is of its account and of its type's kind
+  pub events : (place : ℕ) (row : Row) (event : Event) → row_at place state.rows ≡ Some row → row.item ≡ item.Event event
+      → (event.object < place) × HasSubject (row_at event.object state.rows) row event
 
 -- the view with one row more
 abbrev pub with_next : ViewState → Row → ViewState
 with_next state row = record state { rows = state.rows ++ row ∷ [] }
 
--- a row that an entry may add to a view: at the next place and the view's time, of a new object or a further version of one
+-- a row that an entry may add: at the next place and the view's time, of a new object or a further version of one
 pub record MayFollow (state : ViewState) (row : Row) : Type 0 where
   pub few : length state.rows + 1 < 10 ^ 16
   pub place : row.place ≡ length state.rows + 1
@@ -69,3 +70,8 @@ pub record MayFollow (state : ViewState) (row : Row) : Type 0 where
   pub first : row.object ≤ row.place
   pub texts : list_all is_utf8 (texts_of row.item) ≡ true
   pub events : (event : Event) → row.item ≡ item.Event event → HasSubject (row_at event.object state.rows) row event
+
+-- rows that an entry may add one after another
+abbrev pub AllMayFollow : ViewState → List Row → Type 0
+AllMayFollow state [] = Unit {0}
+AllMayFollow state (row ∷ rows) = MayFollow state row × AllMayFollow (with_next state row) rows

@@ -1,5 +1,5 @@
 -- What rows weigh: 256 each, and the lengths of their texts.
-use Rattle.std.specs.Prelude.{ℕ, ◌+◌, List, [], ◌∷◌, Option, None, Some, length}
+use Rattle.std.specs.Prelude.{ℕ, ◌+◌, ◌^◌, ◌<◌, List, [], ◌∷◌, Option, None, Some, SomeIff, length}
 use Rattle.ph_rows.specs.declared.rows.Row.{Row}
 use Rattle.ph_rows.specs.declared.items.Item.{Item}
 use Rattle.ph_rows.specs.declared.items.Item.TheVariants as item
@@ -21,12 +21,13 @@ abbrev pub metadata_texts : List MetadataPair → List (List ℕ)
 metadata_texts [] = []
 metadata_texts (pair ∷ pairs) = pair.key ∷ pair.value ∷ metadata_texts pairs
 
--- the texts of an item: what it keeps of the words of a request. What is chosen from a list, and what is derived, is no text
+-- the texts of an item: what it keeps of the words of a request; what is chosen from a list is none
 abbrev pub texts_of : Item → List (List ℕ)
 texts_of (item.Account account) = with_text account.email (metadata_texts account.metadata)
 texts_of (item.Intent intent) =
     with_text (method_text intent.payment_method)
     (with_text intent.description (with_text intent.transfer_group (metadata_texts intent.metadata)))
+texts_of (item.Attempt attempt) = []
 texts_of (item.Event event) = with_text event.key []
 
 -- the lengths of texts together
@@ -42,3 +43,7 @@ row_weight row = 256 + total_length (texts_of row.item)
 abbrev pub rows_weight : List Row → ℕ
 rows_weight [] = 0
 rows_weight (row ∷ rows) = row_weight row + rows_weight rows
+
+-- a sum where 64 bits hold it, and none where they don't
+abbrev pub FitsOrNone : Option ℕ → ℕ → Type 0
+FitsOrNone result sum = SomeIff result (sum < 2 ^ 64) sum

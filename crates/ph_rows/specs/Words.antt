@@ -1,4 +1,4 @@
--- The words that are printed for statuses, capture methods and event types; what an event type speaks of.
+-- The words that are printed for statuses, capture methods, reasons of a cancel and event types; what an event type speaks of.
 use Rattle.std.specs.Prelude.{ℕ, List, codes}
 use Rattle.ph_base.specs.declared.ids.Kind.{Kind}
 use Rattle.ph_base.specs.declared.ids.Kind.TheVariants as kind
@@ -6,6 +6,8 @@ use Rattle.ph_rows.specs.declared.intents.IntentStatus.{IntentStatus}
 use Rattle.ph_rows.specs.declared.intents.IntentStatus.TheVariants as status
 use Rattle.ph_rows.specs.declared.intents.CaptureMethod.{CaptureMethod}
 use Rattle.ph_rows.specs.declared.intents.CaptureMethod.TheVariants as capture_method
+use Rattle.ph_rows.specs.declared.intents.CancellationReason.{CancellationReason}
+use Rattle.ph_rows.specs.declared.intents.CancellationReason.TheVariants as reason
 use Rattle.ph_rows.specs.declared.event_kinds.EventKind.{EventKind}
 use Rattle.ph_rows.specs.declared.event_kinds.EventKind.TheVariants as event
 
@@ -24,6 +26,13 @@ abbrev pub capture_method_text : CaptureMethod → List ℕ
 capture_method_text capture_method.Automatic = codes "automatic"
 capture_method_text capture_method.AutomaticAsync = codes "automatic_async"
 capture_method_text capture_method.Manual = codes "manual"
+
+-- the word of a reason for a cancel
+abbrev pub cancellation_reason_text : CancellationReason → List ℕ
+cancellation_reason_text reason.Duplicate = codes "duplicate"
+cancellation_reason_text reason.Fraudulent = codes "fraudulent"
+cancellation_reason_text reason.RequestedByCustomer = codes "requested_by_customer"
+cancellation_reason_text reason.Abandoned = codes "abandoned"
 
 -- the text of an event type
 abbrev pub event_text : EventKind → List ℕ

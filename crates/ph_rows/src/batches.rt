@@ -2,7 +2,7 @@
 ghost use Rattle.std.specs.Prelude.{◌≡◌, ◌+◌, ◌<◌, ◌^◌, ◌++◌, length, IfOk, OnOk, OnErr};
 ghost use Rattle.std.specs.Option.{option_copied};
 ghost use Rattle.ph_rows.specs.Rows.{latest_of};
-ghost use Rattle.ph_rows.specs.Batches.{empty_batch, last_place, with_row, with_announced, account_of, made_rows};
+ghost use Rattle.ph_rows.specs.Batches.{empty_batch, last_place, with_row, with_announced, account_of, event_row, event_rows, made_rows};
 
 use crate::event_kinds::EventKind;
 use crate::events::Event;
@@ -37,7 +37,13 @@ impl Model for Batch {
 
     ghost Value = { BatchState };
 
-    ghost view = { λ b. record { began = b.began; at = b.at; entry = b.entry; rows = b.rows.items; announced = b.announced.items } };
+    ghost view = { λ b. record {
+      began = b.began;
+      at = b.at;
+      entry = b.entry;
+      rows = b.rows.items;
+      announced = b.announced.items;
+    } };
 
     ghost invariant = { λ b. b.began < 2 ^ 62 };
 }
@@ -127,7 +133,14 @@ impl Batch {
             announced,
         } = self;
         let count = began + rows.len() as u64;
-        let mut events = event_rows(alloc, key, at, rows.as_slice(), count, announced.as_slice())?;
+        let mut events = rows_of_events(
+            alloc,
+            key,
+            at,
+            rows.as_slice(),
+            count,
+            announced.as_slice(),
+        )?;
         rows.append(&mut events)?;
         Ok(rows)
     }
@@ -144,7 +157,7 @@ fn account_among(rows: &[Row], object: u64) -> u64
 }
 
 // The row of an event, at a place.
-fn event_row(
+fn row_of_event(
     alloc: Global,
     key: Option<&Bytes>,
     at: u64,
@@ -152,7 +165,7 @@ fn event_row(
     place: u64,
     told: &Announced,
 ) -> Result<Row, NoMemory>
-    ensures { IfOk result (λ row. row ≡ Rattle.ph_rows.specs.Batches.event_row (option_copied key.entry) at rows.now place told.now) }
+    ensures { IfOk result (λ row. row ≡ event_row (option_copied key.entry) at rows.now place told.now) }
 {
     let key = match key {
         Some(key) => Some(key.copy(alloc)?),
@@ -172,7 +185,7 @@ fn event_row(
 }
 
 // The rows of the events announced, at the places after a number of rows.
-fn event_rows(
+fn rows_of_events(
     alloc: Global,
     key: Option<&Bytes>,
     at: u64,
@@ -180,7 +193,7 @@ fn event_rows(
     count: u64,
     announced: &[Announced],
 ) -> Result<Vec<Row>, NoMemory>
-    ensures { IfOk result (λ events. events.items ≡ Rattle.ph_rows.specs.Batches.event_rows (option_copied key.entry) at rows.now count announced.now) }
+    ensures { let made = event_rows (option_copied key.entry) at rows.now count announced.now in IfOk result (λ events. events.items ≡ made) }
 {
     let mut events = Vec::new(alloc);
     for told in announced {
@@ -188,7 +201,7 @@ fn event_rows(
         let Some(place) = count.checked_add(events.len() as u64 + 1) else {
             return Err(NoMemory);
         };
-        events.push(event_row(alloc, key, at, rows, place, told)?)?;
+        events.push(row_of_event(alloc, key, at, rows, place, told)?)?;
     }
     Ok(events)
 }

@@ -1,8 +1,12 @@
 //! Payment intents.
+ghost use Rattle.std.specs.Prelude.{◌≡◌, IfOk};
+ghost use Rattle.std.specs.Option.{option_copied};
+
 use crate::metadata_pairs::Metadata;
 use crate::payment_methods::PaymentMethod;
-use ph_base::Bytes;
+use ph_base::{Bytes, Decline, NoMemory};
 use ph_money::{Amount, Currency};
+use std::alloc::Global;
 
 /// Where a payment intent stands in its life, as Stripe's `status` names it.
 #[derive(Clone, Copy, Debug, PartialEq, Eq)]
@@ -60,15 +64,103 @@ impl CaptureMethod {
     }
 }
 
-/// A version of a payment intent.
+/// Why a payment intent was canceled, as Stripe's `cancellation_reason` names it.
+#[derive(Clone, Copy, Debug, PartialEq, Eq)]
+pub enum CancellationReason {
+    Duplicate,
+    Fraudulent,
+    RequestedByCustomer,
+    Abandoned,
+}
+
+impl CancellationReason {
+    ghost use Rattle.std.specs.Prelude.{◌≡◌};
+    ghost use Rattle.ph_rows.specs.Words.{cancellation_reason_text};
+
+    /// The word of Stripe's `cancellation_reason`.
+    pub fn text(self) -> &'static [u8]
+        ensures { result.now ≡ cancellation_reason_text self }
+    {
+        match self {
+            CancellationReason::Duplicate => b"duplicate",
+            CancellationReason::Fraudulent => b"fraudulent",
+            CancellationReason::RequestedByCustomer => b"requested_by_customer",
+            CancellationReason::Abandoned => b"abandoned",
+        }
+    }
+}
+
+/// Why the last confirmation of a payment intent didn't pay it, as its `last_payment_error` says.
+#[derive(Clone, Copy, Debug, PartialEq, Eq)]
+pub enum PaymentError {
+    /// The acquirer declined the payment.
+    Declined(Decline),
+    /// The customer failed to authenticate.
+    NotAuthenticated,
+}
+
+/// A version of a payment intent. Amounts are in minor units of its currency.
 #[derive(Drop, Debug)]
 pub struct Intent {
     pub amount: Amount,
+    /// What a capture may still take.
+    pub amount_capturable: Amount,
+    /// What was captured.
+    pub amount_received: Amount,
     pub currency: Currency,
     pub status: IntentStatus,
     pub capture_method: CaptureMethod,
     pub payment_method: Option<PaymentMethod>,
+    pub cancellation_reason: Option<CancellationReason>,
+    pub last_payment_error: Option<PaymentError>,
     pub description: Option<Bytes>,
     pub metadata: Metadata,
     pub transfer_group: Option<Bytes>,
+}
+
+impl Intent {
+    ghost use Rattle.std.specs.Prelude.{◌≡◌, IfOk};
+
+    /// The same version once more.
+    pub fn copy(&self, alloc: Global) -> Result<Self, NoMemory>
+        ensures { IfOk result (λ copy. copy ≡ self.now) }
+    {
+        Ok(Intent {
+            amount: self.amount,
+            amount_capturable: self.amount_capturable,
+            amount_received: self.amount_received,
+            currency: self.currency,
+            status: self.status,
+            capture_method: self.capture_method,
+            payment_method: copy_method(alloc, self.payment_method.as_ref())?,
+            cancellation_reason: self.cancellation_reason,
+            last_payment_error: self.last_payment_error,
+            description: copy_text(alloc, self.description.as_ref())?,
+            metadata: self.metadata.copy(alloc)?,
+            transfer_group: copy_text(alloc, self.transfer_group.as_ref())?,
+        })
+    }
+}
+
+// The same payment method once more, where there is one.
+fn copy_method(
+    alloc: Global,
+    method: Option<&PaymentMethod>,
+) -> Result<Option<PaymentMethod>, NoMemory>
+    ensures { IfOk result (λ copy. copy ≡ option_copied method.entry) }
+{
+    match method {
+        Some(method) => Ok(Some(method.copy(alloc)?)),
+        None => Ok(None),
+    }
+}
+
+// The same text once more, where there is one.
+fn copy_text(alloc: Global, text: Option<&Bytes>) -> Result<Option<Bytes>, NoMemory>
+    ensures { IfOk result (λ copy. copy ≡ option_copied text.entry) }
+{
+    match text {
+        Some(text) => Ok(Some(text.copy(alloc)?)),
+        None => Ok(None),
+    }
 }

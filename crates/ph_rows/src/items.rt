@@ -3,6 +3,7 @@ ghost use Rattle.std.specs.Prelude.{◌≡◌};
 ghost use Rattle.ph_rows.specs.Kinds.{kind_of, number_of};
 
 use crate::accounts::Account;
+use crate::attempts::Attempt;
 use crate::events::Event;
 use crate::intents::Intent;
 use ph_base::Kind;
@@ -12,6 +13,7 @@ use ph_base::Kind;
 pub enum Item {
     Account(Account),
     Intent(Intent),
+    Attempt(Attempt),
     Event(Event),
 }
 
@@ -23,6 +25,7 @@ impl Item {
         match self {
             Item::Account(_) => Kind::Account,
             Item::Intent(_) => Kind::Intent,
+            Item::Attempt(_) => Kind::Attempt,
             Item::Event(_) => Kind::Event,
         }
     }

@@ -2,6 +2,7 @@
 #![tactic(auto)]
 
 mod accounts;
+mod attempts;
 mod batches;
 mod event_kinds;
 mod events;
@@ -20,10 +21,11 @@ mod views;
 mod weights;
 
 pub use accounts::{Account, AccountType};
+pub use attempts::{Attempt, AttemptState};
 pub use batches::{Announced, Batch};
 pub use event_kinds::EventKind;
 pub use events::Event;
-pub use intents::{CaptureMethod, Intent, IntentStatus};
+pub use intents::{CancellationReason, CaptureMethod, Intent, IntentStatus, PaymentError};
 pub use items::Item;
 pub use list_views::ListView;
 pub use metadata_pairs::{Metadata, MetadataPair};

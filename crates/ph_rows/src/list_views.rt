@@ -23,7 +23,11 @@ impl Model for ListView {
 
     ghost Value = { ListState };
 
-    ghost view = { λ v. record { time = v.time; rows = v.rows.items; room = min (vec_capacity v.rows) (2 ^ 32 - 1) - length v.rows.items } };
+    ghost view = { λ v. record {
+      time = v.time;
+      rows = v.rows.items;
+      room = min (vec_capacity v.rows) (2 ^ 32 - 1) - length v.rows.items;
+    } };
 
     ghost invariant = { λ v. length v.rows.items < 2 ^ 32 };
 }

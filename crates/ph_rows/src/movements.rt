@@ -23,7 +23,7 @@ impl Item {
         ensures { result ≡ movement_of self.now }
     {
         match self {
-            Item::Account(_) | Item::Intent(_) | Item::Event(_) => None,
+            Item::Account(_) | Item::Intent(_) | Item::Attempt(_) | Item::Event(_) => None,
         }
     }
 }

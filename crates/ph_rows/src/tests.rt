@@ -1,5 +1,5 @@
 use super::*;
-use ph_base::{Bytes, Kind, Method, NoMemory};
+use ph_base::{Bytes, Decline, Kind, Method, NoMemory};
 use ph_money::{Amount, Currency};
 use std::alloc::Global;
 use std::test::Fail;
@@ -17,13 +17,31 @@ fn account(alloc: Global) -> Item {
 fn intent(alloc: Global, status: IntentStatus) -> Item {
     Item::Intent(Intent {
         amount: Amount::new(2000),
+        amount_capturable: Amount::new(0),
+        amount_received: Amount::new(0),
         currency: Currency::Usd,
         status,
         capture_method: CaptureMethod::Automatic,
         payment_method: None,
+        cancellation_reason: None,
+        last_payment_error: None,
         description: None,
         metadata: Metadata::new(alloc),
         transfer_group: None,
+    })
+}
+
+fn attempt(number: u64, intent: u64) -> Item {
+    Item::Attempt(Attempt {
+        intent,
+        order: Order {
+            reference: number,
+            amount: Amount::new(2000),
+            currency: Currency::Usd,
+            method: Method::Visa,
+        },
+        state: AttemptState::Live,
+        opener: 1,
     })
 }
 
@@ -172,6 +190,7 @@ fn metadata_in_order(rt: HostRuntime) -> Result<(), Fail> {
 }
 
 // 256 for a row, and its texts: `pm_card_visa`, `Order 7`, `g` and the metadata `order=7`; the key `k9` of an event.
+// An attempt has no text.
 #[test]
 fn weights_of_rows(rt: HostRuntime) -> Result<(), Fail> {
     let alloc = rt.alloc();
@@ -184,29 +203,35 @@ fn weights_of_rows(rt: HostRuntime) -> Result<(), Fail> {
         Bytes::from_slice(alloc, b"order")?,
         Bytes::from_slice(alloc, b"7")?,
     )?;
-    let paid = Item::Intent(Intent {
+    let paid = Intent {
         amount: Amount::new(2000),
+        amount_capturable: Amount::new(2000),
+        amount_received: Amount::new(0),
         currency: Currency::Usd,
         status: IntentStatus::RequiresConfirmation,
         capture_method: CaptureMethod::Manual,
         payment_method: Some(visa.copy(alloc)?),
+        cancellation_reason: Some(CancellationReason::Abandoned),
+        last_payment_error: Some(PaymentError::Declined(Decline::NoFunds)),
         description: Some(Bytes::from_slice(alloc, b"Order 7")?),
         metadata,
         transfer_group: Some(Bytes::from_slice(alloc, b"g")?),
-    });
+    };
     let key = Bytes::from_slice(alloc, b"k9")?;
     let rows = vec![in alloc;
         row(1, 1, 1, account(alloc)),
-        row(2, 2, 1, paid),
+        row(2, 2, 1, Item::Intent(paid.copy(alloc)?)),
         row(3, 3, 1, event(EventKind::IntentCreated, 2, Some(key))),
+        row(4, 4, 1, attempt(4, 2)),
     ]?;
     assert_eq!(rt; rows[0].weight(), Some(256));
     assert_eq!(rt; rows[1].weight(), Some(282));
     assert_eq!(rt; rows[2].weight(), Some(258));
-    assert_eq!(rt; weight_with_rows(1000, rows.as_slice()), Some(1796));
-    assert_eq!(rt; weight_with_rows(u64::MAX - 795, rows.as_slice()), None);
+    assert_eq!(rt; rows[3].weight(), Some(256));
+    assert_eq!(rt; weight_with_rows(1000, rows.as_slice()), Some(2052));
+    assert_eq!(rt; weight_with_rows(u64::MAX - 1051, rows.as_slice()), None);
     assert_eq!(rt;
-        weight_with_rows(u64::MAX - 796, rows.as_slice()),
+        weight_with_rows(u64::MAX - 1052, rows.as_slice()),
         Some(u64::MAX)
     );
     Ok(())
@@ -230,5 +255,9 @@ fn words_that_are_printed(rt: HostRuntime) {
     assert_eq!(rt;
         CaptureMethod::AutomaticAsync.text(),
         b"automatic_async".as_slice()
+    );
+    assert_eq!(rt;
+        CancellationReason::RequestedByCustomer.text(),
+        b"requested_by_customer".as_slice()
     );
 }

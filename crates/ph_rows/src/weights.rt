@@ -1,7 +1,7 @@
 //! What rows weigh.
-ghost use Rattle.std.specs.Prelude.{◌≡◌, ◌+◌, ◌<◌, ◌^◌, [], SomeIff};
+ghost use Rattle.std.specs.Prelude.{◌+◌, []};
 ghost use Rattle.std.specs.Option.{option_copied};
-ghost use Rattle.ph_rows.specs.Weights.{with_text, method_text, metadata_texts, texts_of, total_length, row_weight, rows_weight};
+ghost use Rattle.ph_rows.specs.Weights.{with_text, method_text, metadata_texts, texts_of, total_length, rows_weight, FitsOrNone};
 
 use crate::items::Item;
 use crate::metadata_pairs::MetadataPair;
@@ -10,12 +10,11 @@ use crate::rows::Row;
 use ph_base::Bytes;
 
 impl Row {
-    ghost use Rattle.std.specs.Prelude.{◌^◌, ◌<◌, SomeIff};
-    ghost use Rattle.ph_rows.specs.Weights.{row_weight};
+    ghost use Rattle.ph_rows.specs.Weights.{row_weight, FitsOrNone};
 
     /// What the row weighs: 256, and the lengths of its texts. None exactly where 64 bits don't hold it.
     pub fn weight(&self) -> Option<u64>
-        ensures { SomeIff result (row_weight self.now < 2 ^ 64) (row_weight self.now) }
+        ensures { FitsOrNone result (row_weight self.now) }
     {
         plus_item(256, &self.item)
     }
@@ -23,7 +22,7 @@ impl Row {
 
 /// A weight and what the rows weigh together. None exactly where 64 bits don't hold it.
 pub fn weight_with_rows(weight: u64, rows: &[Row]) -> Option<u64>
-    ensures { SomeIff result (weight + rows_weight rows.now < 2 ^ 64) (weight + rows_weight rows.now) }
+    ensures { FitsOrNone result (weight + rows_weight rows.now) }
 {
     let mut sum = weight;
     for row in rows {
@@ -34,7 +33,7 @@ pub fn weight_with_rows(weight: u64, rows: &[Row]) -> Option<u64>
 
 // A sum and the lengths of an item's texts.
 fn plus_item(sum: u64, item: &Item) -> Option<u64>
-    ensures { SomeIff result (sum + total_length (texts_of item.now) < 2 ^ 64) (sum + total_length (texts_of item.now)) }
+    ensures { FitsOrNone result (sum + total_length (texts_of item.now)) }
 {
     match item {
         Item::Account(account) => {
@@ -47,13 +46,14 @@ fn plus_item(sum: u64, item: &Item) -> Option<u64>
             let sum = plus_text(sum, intent.transfer_group.as_ref())?;
             plus_pairs(sum, intent.metadata.pairs())
         }
+        Item::Attempt(_) => Some(sum),
         Item::Event(event) => plus_text(sum, event.key.as_ref()),
     }
 }
 
 // A sum and the length of a text, where there is one.
 fn plus_text(sum: u64, text: Option<&Bytes>) -> Option<u64>
-    ensures { SomeIff result (sum + total_length (with_text (option_copied text.entry) []) < 2 ^ 64) (sum + total_length (with_text (option_copied text.entry) [])) }
+    ensures { FitsOrNone result (sum + total_length (with_text (option_copied text.entry) [])) }
 {
     match text {
         Some(text) => sum.checked_add(text.as_slice().len() as u64),
@@ -63,7 +63,7 @@ fn plus_text(sum: u64, text: Option<&Bytes>) -> Option<u64>
 
 // A sum and the length of the name of a payment method, where there is one.
 fn plus_method(sum: u64, method: Option<&PaymentMethod>) -> Option<u64>
-    ensures { SomeIff result (sum + total_length (with_text (method_text (option_copied method.entry)) []) < 2 ^ 64) (sum + total_length (with_text (method_text (option_copied method.entry)) [])) }
+    ensures { FitsOrNone result (sum + total_length (with_text (method_text (option_copied method.entry)) [])) }
 {
     match method {
         Some(method) => plus_text(sum, Some(&method.text)),
@@ -73,7 +73,7 @@ fn plus_method(sum: u64, method: Option<&PaymentMethod>) -> Option<u64>
 
 // A sum and the lengths of the names and the texts of metadata.
 fn plus_pairs(before: u64, pairs: &[MetadataPair]) -> Option<u64>
-    ensures { SomeIff result (before + total_length (metadata_texts pairs.now) < 2 ^ 64) (before + total_length (metadata_texts pairs.now)) }
+    ensures { FitsOrNone result (before + total_length (metadata_texts pairs.now)) }
 {
     let mut sum = before;
     for pair in pairs {

@@ -1,7 +1,7 @@
 use Rattle.std.proofs.Common.{◌≡◌, ◌++◌, ◌+◌, length, drop}
 use Rattle.std.specs.Option.{option_copied}
 use Rattle.ph_rows.specs.Batches.{event_rows}
-use Rattle.ph_rows.proofs.batches.event_rows.Given as goal
+use Rattle.ph_rows.proofs.batches.rows_of_events.Given as goal
 
 abbrev pub invariant-loop-told : goal.invariant-loop-told
 invariant-loop-told l =
