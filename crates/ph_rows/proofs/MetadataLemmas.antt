@@ -1,11 +1,12 @@
-use Rattle.std.proofs.Common.{◌≡◌, ℕ, ◌<◌, suc, zero, Bool, true, false, ◌&&◌, List, [], ◌∷◌, ◌++◌, length, get_or, take, drop, Ordering, sym, refl, ap, ◌∙◌, arith}
+use Rattle.std.proofs.Common.{◌≡◌, ℕ, ◌<◌, suc, zero, Bool, true, false, ◌&&◌, not, cond, bytes_eq, List, [], ◌∷◌, ◌++◌, length, get_or, take, drop, Ordering, sym, refl, ap, ◌∙◌, arith}
+use Rattle.std.specs.List.{filter}
 use Rattle.std.specs.Ordering.{is_lt, ordering_reverse}
 use Rattle.std.specs.declared.cmp.Ordering.TheVariants.{Less, Equal, Greater}
 use Rattle.std.proofs.lemmas.Cmp.{nat_list_cmp_total}
 use Rattle.std.proofs.Math.Seq.{drop-cons}
 use Rattle.std.specs.Prelude.{slice_set}
 use Rattle.ph_rows.specs.declared.metadata_pairs.MetadataPair.{MetadataPair}
-use Rattle.ph_rows.specs.Metadata.{name_cmp, is_before, are_ordered, placed_pair, with_pair}
+use Rattle.ph_rows.specs.Metadata.{name_cmp, is_before, are_ordered, placed_pair, with_pair, without_pair}
 
 -- both tests pass where one and the other do
 both : (a b : Bool) → a ≡ true → b ≡ true → (a && b) ≡ true
@@ -21,6 +22,12 @@ first_of false b p = p
 second_of : (a b : Bool) → (a && b) ≡ true → b ≡ true
 second_of true b p = p
 second_of false b p = absurd (cc)
+
+-- an order that is below is Less
+is_less : (o : Ordering) → is_lt o ≡ true → o ≡ Less
+is_less Less h = refl
+is_less Equal h = absurd (cc)
+is_less Greater h = absurd (cc)
 
 -- a name that is after another stands behind it
 behind : (first second : List ℕ) → name_cmp first second ≡ Greater → is_lt (name_cmp second first) ≡ true
@@ -71,3 +78,45 @@ replaced new pairs place pair within here same further =
     let cell : drop place pairs ≡ pair ∷ rest = drop-cons pairs place pair within ∙ ap (λ (p : MetadataPair). p ∷ rest) (sym here) in
     let at : with_pair new (drop place pairs) ≡ new ∷ rest = ap (with_pair new) cell ∙ ap (λ (o : Ordering). placed_pair o new pair rest (with_pair new rest)) same in
     set_at pairs place new within ∙ ap (λ (others : List MetadataPair). take place pairs ++ others) (sym at) ∙ sym further
+
+-- a name that stands before a pair and the others stands before the others
+before_others : (name : List ℕ) (pair : MetadataPair) (pairs : List MetadataPair) → is_lt (name_cmp name pair.key) ≡ true
+    → is_before pair.key pairs ≡ true → is_before name pairs ≡ true
+before_others name pair [] h others = refl
+before_others name pair (next ∷ pairs) h others =
+    ap is_lt (nat_list_cmp_total.trans name pair.key next.key (is_less (name_cmp name pair.key) h) (is_less (name_cmp pair.key next.key) others))
+
+-- a name that stands before ordered pairs stands before those of them that pass a test
+before_kept : (test : MetadataPair → Bool) (name : List ℕ) (pairs : List MetadataPair) → is_before name pairs ≡ true
+    → are_ordered pairs ≡ true → is_before name (filter test pairs) ≡ true
+before_kept test name [] h ordered = refl
+before_kept test name (pair ∷ pairs) h ordered =
+    at (before_kept test name pairs
+    (before_others name pair pairs h (first_of (is_before pair.key pairs) (are_ordered pairs) ordered))
+    (second_of (is_before pair.key pairs) (are_ordered pairs) ordered))
+    (test pair)
+  where
+    at : is_before name (filter test pairs) ≡ true → (b : Bool)
+        → is_before name (cond b (pair ∷ filter test pairs) (filter test pairs)) ≡ true
+    at others true = h
+    at others false = others
+
+-- of ordered pairs those that pass a test are ordered
+kept_ordered : (test : MetadataPair → Bool) (pairs : List MetadataPair) → are_ordered pairs ≡ true
+    → are_ordered (filter test pairs) ≡ true
+kept_ordered test [] ordered = refl
+kept_ordered test (pair ∷ pairs) ordered = at (kept_ordered test pairs others) (test pair)
+  where
+    others : are_ordered pairs ≡ true
+    others = second_of (is_before pair.key pairs) (are_ordered pairs) ordered
+
+    at : are_ordered (filter test pairs) ≡ true → (b : Bool)
+        → are_ordered (cond b (pair ∷ filter test pairs) (filter test pairs)) ≡ true
+    at further true = both (is_before pair.key (filter test pairs)) (are_ordered (filter test pairs))
+        (before_kept test pair.key pairs (first_of (is_before pair.key pairs) (are_ordered pairs) ordered) others) further
+    at further false = further
+
+-- ordered pairs stay ordered without one
+pub stays_ordered_without : (name : List ℕ) (pairs : List MetadataPair) → are_ordered pairs ≡ true
+    → are_ordered (without_pair name pairs) ≡ true
+stays_ordered_without name pairs ordered = kept_ordered (λ pair. not (bytes_eq pair.key name)) pairs ordered

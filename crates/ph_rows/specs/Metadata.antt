@@ -1,6 +1,8 @@
 -- Metadata: pairs in byte order of their names, each name once.
-use Rattle.std.specs.Prelude.{ℕ, Bool, true, ◌&&◌, List, [], ◌∷◌}
+use Rattle.std.specs.Prelude.{ℕ, Bool, true, ◌&&◌, not, List, [], ◌∷◌}
+use Rattle.std.specs.List.{filter}
 use Rattle.std.specs.Ordering.{nat_cmp, is_lt}
+use Rattle.std.specs.Str.{bytes_eq}
 use Rattle.std.specs.Cmp.Lexicographic.{slice_cmp}
 use Rattle.std.specs.declared.cmp.Ordering.{Ordering}
 use Rattle.std.specs.declared.cmp.Ordering.TheVariants.{Less, Equal, Greater}
@@ -31,3 +33,7 @@ placed_pair Greater new pair pairs further = pair ∷ further
 abbrev pub with_pair : MetadataPair → List MetadataPair → List MetadataPair
 with_pair new [] = new ∷ []
 with_pair new (pair ∷ pairs) = placed_pair (name_cmp new.key pair.key) new pair pairs (with_pair new pairs)
+
+-- the pairs but the one of a name
+abbrev pub without_pair : List ℕ → List MetadataPair → List MetadataPair
+without_pair name pairs = filter (λ pair. not (bytes_eq pair.key name)) pairs

@@ -1,6 +1,6 @@
 //! Metadata: texts by their names, as a client attaches them to an object.
 ghost use Rattle.std.specs.Prelude.{◌≡◌, ◌==◌, true, length, [], IfOk, OnOk, OnErr};
-ghost use Rattle.ph_rows.specs.Metadata.{with_pair, are_ordered};
+ghost use Rattle.ph_rows.specs.Metadata.{with_pair, without_pair, are_ordered};
 
 use ph_base::{Bytes, NoMemory};
 use std::alloc::Global;
@@ -74,6 +74,14 @@ impl Metadata {
         put(&mut self.pairs, MetadataPair { key, value })
     }
 
+    /// Takes a name and its text away; where the name isn't there nothing changes. It takes no memory.
+    #[tactic(auto, using(crate::proofs::MetadataLemmas::stays_ordered_without))]
+    pub fn remove(&mut self, key: &[u8])
+        ensures { self.new ≡ without_pair key.now self.old }
+    {
+        take_out(&mut self.pairs, key);
+    }
+
     /// The same metadata once more.
     pub fn copy(&self, alloc: Global) -> Result<Self, NoMemory>
         ensures { IfOk result (λ copy. copy ≡ self.now) }
@@ -107,4 +115,11 @@ fn put(pairs: &mut Vec<MetadataPair>, new: MetadataPair) -> Result<(), NoMemory>
     }
     pairs.insert(place, new)?;
     Ok(())
+}
+
+// Takes the pair of a name away, where there is one.
+fn take_out(pairs: &mut Vec<MetadataPair>, name: &[u8])
+    ensures { pairs.new.items ≡ without_pair name.now pairs.old.items }
+{
+    pairs.retain(|pair| pair.key.as_slice() != name);
 }
