@@ -1,0 +1,2 @@
+pub mod Absolute
+pub mod Address

@@ -1,0 +1,19 @@
+//! The calls of the API, read from requests by one table.
+#![tactic(auto)]
+
+mod call;
+mod check;
+mod errors;
+mod intents;
+mod reading;
+mod route;
+mod row;
+mod table;
+#[cfg(test)]
+mod tests;
+
+pub use call::{
+    Authenticate, Authentication, Call, CancelIntent, CaptureIntent, ConfirmIntent, CreateIntent,
+    GetIntent, UpdateIntent,
+};
+pub use reading::read_call;

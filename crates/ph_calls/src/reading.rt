@@ -1,0 +1,70 @@
+//! Reading a request as a call.
+ghost use Rattle.std.specs.Prelude.{◌≡◌, IfErr, IfOk, Ok, Err};
+ghost use Rattle.ph_form.specs.Leaves.{leaves_of};
+ghost use Rattle.ph_form.specs.Pairs.{pairs_in};
+ghost use Rattle.ph_calls.specs.Reading.{Refuses, call_of, reading_by, reading_of};
+ghost use Rattle.ph_calls.specs.Table.{line_of};
+
+use crate::call::{Call, GetIntent};
+use crate::check::row_error;
+use crate::errors::fault_error;
+use crate::intents::{create_intent, create_intent_error};
+use crate::route::find_route;
+use crate::row::{Name, TableRow};
+use ph_base::Bytes;
+use ph_errors::{ApiError, Refusal};
+use ph_form::{Form, FormFault, read_form};
+use ph_http::Raw;
+use std::alloc::Global;
+
+/// The call of a name, or the error of the first of its further checks.
+fn make_call(alloc: Global, name: Name, id: &[u8], form: &Form) -> Result<Call, Refusal>
+    ensures call { IfOk result (λ call. call_of name id.now form.now ≡ Ok call) }
+    ensures refusal { IfErr result (Refuses (call_of name id.now form.now)) }
+{
+    match name {
+        Name::CreateIntent => {
+            let call = create_intent(alloc, form)?;
+            match create_intent_error(alloc, &call)? {
+                Some(error) => Err(Refusal::Api(error)),
+                None => Ok(Call::CreateIntent(call)),
+            }
+        }
+        Name::GetIntent => Ok(Call::GetIntent(GetIntent {
+            id: Bytes::from_slice(alloc, id)?,
+        })),
+    }
+}
+
+/// What a request of a row is read as.
+fn read_by(alloc: Global, row: &TableRow, id: &[u8], form: &Form) -> Result<Call, Refusal>
+    ensures call { IfOk result (λ call. reading_by (line_of row.now) id.now (Ok form.now) ≡ Ok call) }
+    ensures refusal { IfErr result (Refuses (reading_by (line_of row.now) id.now (Ok form.now))) }
+{
+    match row_error(alloc, row, form)? {
+        Some(error) => Err(Refusal::Api(error)),
+        None => make_call(alloc, row.call, id, form),
+    }
+}
+
+/// The call that a request is. It is refused where no call has its method and path; else where its query and body are no
+/// form; else for the least name, in byte order, that isn't a parameter of the call; else for the first parameter that is
+/// missing or isn't of its kind; else by the call's further checks.
+pub fn read_call(alloc: Global, raw: &Raw) -> Result<Call, Refusal>
+    ensures call { IfOk result (λ call. reading_of raw.now ≡ Ok call) }
+    ensures refusal { IfErr result (Refuses (reading_of raw.now)) }
+{
+    match find_route(raw.method.as_slice(), raw.path.as_slice()) {
+        None => Err(Refusal::Api(ApiError::unrecognized_url(alloc)?)),
+        Some((row, id)) => {
+            let query = match &raw.query {
+                Some(query) => query.as_slice(),
+                None => b"",
+            };
+            match read_form(alloc, query, raw.body.as_slice()) {
+                Ok(form) => read_by(alloc, row, id, &form),
+                Err(fault) => Err(Refusal::Api(fault_error(alloc, fault)?)),
+            }
+        }
+    }
+}

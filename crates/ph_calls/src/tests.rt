@@ -1,0 +1,6 @@
+//! Requests read whole, by tables: a line is a request and, behind blanks, what it is read as.
+
+mod creating;
+mod lengths;
+mod routing;
+mod shown;

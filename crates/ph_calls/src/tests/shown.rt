@@ -1,0 +1,147 @@
+//! What a request is read as, as a line of text.
+
+use crate::{Call, CreateIntent, read_call};
+use ph_base::{Bytes, NoMemory};
+use ph_errors::{ApiError, Refusal};
+use ph_http::Raw;
+use ph_kinds::Meta;
+use std::alloc::Global;
+use std::process::Abort;
+
+/// A number in digits.
+pub fn number(alloc: Global, n: u64) -> Result<Vec<u8>, NoMemory> {
+    let text = n.to_string(alloc)?;
+    Ok(text.into_bytes())
+}
+
+fn add(shown: &mut Vec<u8>, name: &[u8], text: &[u8]) -> Result<(), NoMemory> {
+    shown.push(b' ')?;
+    shown.extend_from_slice(name)?;
+    shown.push(b'=')?;
+    shown.extend_from_slice(text)?;
+    Ok(())
+}
+
+fn add_text(shown: &mut Vec<u8>, name: &[u8], text: &Option<Bytes>) -> Result<(), NoMemory> {
+    match text {
+        Some(text) => add(shown, name, text.as_slice()),
+        None => Ok(()),
+    }
+}
+
+fn add_metadata(shown: &mut Vec<u8>, metadata: &Option<Meta>) -> Result<(), NoMemory> {
+    match metadata {
+        Some(Meta::Clear) => add(shown, b"metadata", b"clear"),
+        Some(Meta::Set(pairs)) => {
+            let pairs = pairs.as_slice();
+            for pair in pairs {
+                add(shown, pair.0.as_slice(), pair.1.as_slice())?;
+            }
+            Ok(())
+        }
+        None => Ok(()),
+    }
+}
+
+/// A create as `AMOUNT CURRENCY`, and ` name=value` for each further parameter that it has.
+fn create_text(alloc: Global, call: &CreateIntent) -> Result<Vec<u8>, NoMemory> {
+    let mut shown = number(alloc, call.amount.units())?;
+    shown.push(b' ')?;
+    shown.extend_from_slice(call.currency.code())?;
+    match &call.payment_method {
+        Some(named) => add(&mut shown, b"method", named.text.as_slice())?,
+        None => {}
+    }
+    match &call.capture_method {
+        Some(method) => add(&mut shown, b"capture", method.text())?,
+        None => {}
+    }
+    add_text(&mut shown, b"description", &call.description)?;
+    add_metadata(&mut shown, &call.metadata)?;
+    add_text(&mut shown, b"group", &call.transfer_group)?;
+    Ok(shown)
+}
+
+/// An error as `STATUS CODE PARAM`, with `-` for no code, and its message in place of a parameter that isn't there.
+fn error_text(alloc: Global, error: &ApiError) -> Result<Vec<u8>, NoMemory> {
+    let mut shown = number(alloc, u64::from(error.status))?;
+    shown.push(b' ')?;
+    match error.code {
+        Some(code) => shown.extend_from_slice(code.name().as_bytes())?,
+        None => shown.push(b'-')?,
+    }
+    shown.push(b' ')?;
+    match &error.param {
+        Some(param) => shown.extend_from_slice(param.as_slice())?,
+        None => shown.extend_from_slice(error.message.as_slice())?,
+    }
+    Ok(shown)
+}
+
+/// A request with this method, path, query and body.
+pub fn raw(
+    alloc: Global,
+    method: &[u8],
+    path: &[u8],
+    query: &[u8],
+    body: &[u8],
+) -> Result<Raw, NoMemory> {
+    Ok(Raw {
+        method: Bytes::from_slice(alloc, method)?,
+        path: Bytes::from_slice(alloc, path)?,
+        query: Some(Bytes::from_slice(alloc, query)?),
+        auth: None,
+        key: None,
+        account: None,
+        body: Bytes::from_slice(alloc, body)?,
+        close: false,
+    })
+}
+
+/// A word and an id.
+fn with_id(alloc: Global, word: &[u8], id: &Bytes) -> Result<Vec<u8>, NoMemory> {
+    let mut shown = Vec::from_slice(alloc, word)?;
+    shown.push(b' ')?;
+    shown.extend_from_slice(id.as_slice())?;
+    Ok(shown)
+}
+
+/// What a request is read as.
+fn read_text(alloc: Global, raw: &Raw) -> Result<Vec<u8>, NoMemory> {
+    match read_call(alloc, raw) {
+        Ok(Call::CreateIntent(call)) => create_text(alloc, &call),
+        Ok(Call::GetIntent(call)) => with_id(alloc, b"get", &call.id),
+        Err(Refusal::Api(error)) => error_text(alloc, &error),
+        Err(Refusal::NoMemory) => Err(NoMemory),
+    }
+}
+
+/// The request is read as the text that is wanted.
+pub fn is_read(
+    rt: &impl Abort,
+    alloc: Global,
+    raw: Result<Raw, NoMemory>,
+    want: &[u8],
+    line: &str,
+) {
+    match raw {
+        Ok(raw) => match read_text(alloc, &raw) {
+            Ok(text) => assert!(rt; text.as_slice() == want, "{line}"),
+            Err(NoMemory) => assert!(rt; false),
+        },
+        Err(NoMemory) => assert!(rt; false),
+    }
+}
+
+/// Each line is the body of a request with this method and path, and what it is read as.
+pub fn each_is_read(rt: &impl Abort, alloc: Global, method: &[u8], path: &[u8], table: &str) {
+    for line in table.lines() {
+        match line.trim().split_once(' ') {
+            Some((body, want)) => {
+                let request = raw(alloc, method, path, b"", body.as_bytes());
+                is_read(rt, alloc, request, want.trim().as_bytes(), line);
+            }
+            None => assert!(rt; line.trim().is_empty(), "{line}"),
+        }
+    }
+}

@@ -1,0 +1,7 @@
+pub mod Numbers
+pub mod Words
+pub mod Methods
+pub mod Metadata
+pub mod Events
+pub mod Kinds
+pub mod Values

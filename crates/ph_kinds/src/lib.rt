@@ -1,0 +1,30 @@
+//! The kinds of parameters: what each takes from a form, and how it refuses anything else.
+#![tactic(auto)]
+
+mod characters;
+mod events;
+mod flaw;
+mod form_values;
+mod kind;
+mod kinds;
+mod lists;
+mod metadata;
+mod methods;
+mod numbers;
+#[cfg(test)]
+mod tests;
+mod words;
+
+pub use characters::character_count;
+pub use flaw::Flaw;
+pub use form_values::{
+    address_at, amount_at, capture_method_at, currency_at, events_at, metadata_at, number_at,
+    payment_method_at, text_at, truth_at,
+};
+pub use kind::Kind;
+pub use kinds::{map_flaw, text_flaw};
+pub use lists::{Pairs, Texts};
+pub use metadata::Meta;
+pub use methods::read_method;
+pub use numbers::{read_amount, read_whole};
+pub use words::{read_capture_method, read_currency, read_truth};

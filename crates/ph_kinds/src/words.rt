@@ -1,0 +1,44 @@
+//! Words that parameters take.
+ghost use Rattle.std.specs.Prelude.{◌≡◌};
+ghost use Rattle.ph_kinds.specs.Words.{capture_method_in, currency_in, truth_in};
+
+use crate::flaw::Flaw;
+use ph_money::Currency;
+use ph_rows::CaptureMethod;
+
+const CAPTURE_METHODS: [CaptureMethod; 3] = [
+    CaptureMethod::Automatic,
+    CaptureMethod::AutomaticAsync,
+    CaptureMethod::Manual,
+];
+
+/// The currency whose code a text is, ASCII case ignored.
+pub fn read_currency(text: &[u8]) -> Result<Currency, Flaw>
+    ensures { result ≡ currency_in text.now }
+{
+    Currency::read(text).ok_or(Flaw::InvalidValue)
+}
+
+/// The truth value that a text is, ASCII case ignored.
+pub fn read_truth(text: &[u8]) -> Result<bool, Flaw>
+    ensures { result ≡ truth_in text.now }
+{
+    if text.eq_ignore_ascii_case(b"true") {
+        Ok(true)
+    } else if text.eq_ignore_ascii_case(b"false") {
+        Ok(false)
+    } else {
+        Err(Flaw::InvalidValue)
+    }
+}
+
+/// The capture method whose word a text is.
+pub fn read_capture_method(text: &[u8]) -> Result<CaptureMethod, Flaw>
+    ensures { result ≡ capture_method_in text.now }
+{
+    CAPTURE_METHODS
+        .iter()
+        .copied()
+        .find(|method| text == method.text())
+        .ok_or(Flaw::InvalidValue)
+}
