@@ -1,0 +1,5 @@
+pub mod Accounts
+pub mod Events
+pub mod Intents
+pub mod Objects
+pub mod Values

@@ -1,0 +1,61 @@
+//! Accounts.
+ghost use Rattle.std.specs.Prelude.{◌≡◌, IfOk};
+ghost use Rattle.ph_views.specs.Accounts.{account_doc, account_type_text, holder_members, standing_members};
+
+use crate::values;
+use ph_base::{Kind, NoMemory};
+use ph_json::{Doc, Members};
+use ph_rows::{Account, AccountType};
+use std::alloc::Global;
+
+/// The document of a version of an account that was created at a moment and has a number.
+#[tactic(auto, unfolding(crate::specs::Accounts::account_doc))]
+pub fn account_doc(
+    alloc: Global,
+    created: u64,
+    object: u64,
+    account: &Account,
+) -> Result<Doc, NoMemory>
+    ensures { IfOk result (λ doc. doc ≡ account_doc created object account.now) }
+{
+    let mut members = holder(alloc, account)?;
+    members.append(standing(alloc, created, object)?)?;
+    Ok(members.done())
+}
+
+// Whose it is.
+#[tactic(auto, unfolding(crate::specs::Accounts::holder_members))]
+fn holder(alloc: Global, account: &Account) -> Result<Members, NoMemory>
+    ensures { IfOk result (λ members. members ≡ holder_members account.now) }
+{
+    let mut members = Members::new(alloc);
+    members.text_or_null("email", &account.email)?;
+    members.put("metadata", values::metadata(alloc, &account.metadata)?)?;
+    members.text("type", type_text(account.sort))?;
+    Ok(members)
+}
+
+// Which one, and what it may do.
+#[tactic(auto, unfolding(crate::specs::Accounts::standing_members))]
+fn standing(alloc: Global, created: u64, object: u64) -> Result<Members, NoMemory>
+    ensures { IfOk result (λ members. members ≡ standing_members created object) }
+{
+    let mut members = Members::new(alloc);
+    members.truth("charges_enabled", true)?;
+    members.put("created", values::moment(created))?;
+    members.put("id", values::id(alloc, Kind::Account, object)?)?;
+    members.word("object", "account")?;
+    members.truth("payouts_enabled", true)?;
+    Ok(members)
+}
+
+// The word of an account's type.
+fn type_text(sort: AccountType) -> &'static [u8]
+    ensures { result.now ≡ account_type_text sort }
+{
+    match sort {
+        AccountType::Standard => b"standard",
+        AccountType::Express => b"express",
+        AccountType::Custom => b"custom",
+    }
+}
