@@ -17,83 +17,95 @@ use Rattle.ph_http.proofs.FirstLemmas.{first_by}
 
 -- ---- statuses
 
-number_status : (n status : ℕ) → by_number n ≡ Refuses status → is_status status ≡ true
-number_status n status h = at (nat_le n 65536) h
+-- a test that each status passes with which a session closes
+pub record PassClosing (test : ℕ → Bool) : Type 0 where
+  pub malformed : test 400 ≡ true
+  pub too_large : test 413 ≡ true
+  pub head_too_large : test 431 ≡ true
+  pub not_implemented : test 501 ≡ true
+  pub other_version : test 505 ≡ true
+
+number_status : (test : ℕ → Bool) → PassClosing test → (n status : ℕ) → by_number n ≡ Refuses status → test status ≡ true
+number_status test p n status h = at (nat_le n 65536) h
   where
-    at : (a : Bool) → cond a (Takes n) (Refuses 413) ≡ Refuses status → is_status status ≡ true
+    at : (a : Bool) → cond a (Takes n) (Refuses 413) ≡ Refuses status → test status ≡ true
     at true h = absurd cc
-    at false h = let e : 413 ≡ status = cc in ap is_status (sym e)
+    at false h = let e : 413 ≡ status = cc in ap test (sym e) ∙ p.too_large
 
-length_status : (o : Option (List ℕ)) (headers : Headers) (status : ℕ) → by_length o headers ≡ Refuses status → is_status status ≡ true
-length_status None headers status h = absurd cc
-length_status (Some value) headers status h = at (all_values (is_same_number value) (codes "content-length") headers) h
+length_status : (test : ℕ → Bool) → PassClosing test → (o : Option (List ℕ)) (headers : Headers) (status : ℕ) → by_length o headers ≡ Refuses status → test status ≡ true
+length_status test p None headers status h = absurd cc
+length_status test p (Some value) headers status h = at (all_values (is_same_number value) (codes "content-length") headers) h
   where
-    at : (a : Bool) → cond a (by_number (number_of value)) (Refuses 400) ≡ Refuses status → is_status status ≡ true
-    at true h = number_status (number_of value) status h
-    at false h = let e : 400 ≡ status = cc in ap is_status (sym e)
+    at : (a : Bool) → cond a (by_number (number_of value)) (Refuses 400) ≡ Refuses status → test status ≡ true
+    at true h = number_status test p (number_of value) status h
+    at false h = let e : 400 ≡ status = cc in ap test (sym e) ∙ p.malformed
 
-verdict_status : (method : List ℕ) (headers : Headers) (status : ℕ) → verdict_of method headers ≡ Refuses status → is_status status ≡ true
+verdict_status : (test : ℕ → Bool) → PassClosing test → (method : List ℕ) (headers : Headers) (status : ℕ) → verdict_of method headers ≡ Refuses status → test status ≡ true
 unfolding verdict_of
-verdict_status method headers status h = at (is_served method && not (has_coding headers)) h
+verdict_status test p method headers status h = at (is_served method && not (has_coding headers)) h
   where
-    at : (a : Bool) → cond a (by_length (value_of (codes "content-length") headers) headers) (Refuses 501) ≡ Refuses status → is_status status ≡ true
-    at true h = length_status (value_of (codes "content-length") headers) headers status h
-    at false h = let e : 501 ≡ status = cc in ap is_status (sym e)
+    at : (a : Bool) → cond a (by_length (value_of (codes "content-length") headers) headers) (Refuses 501) ≡ Refuses status → test status ≡ true
+    at true h = length_status test p (value_of (codes "content-length") headers) headers status h
+    at false h = let e : 501 ≡ status = cc in ap test (sym e) ∙ p.not_implemented
 
-head_status : (o : Option HeadParts) (status : ℕ) → by_head o ≡ Closes status → is_status status ≡ true
-head_status None status h = let e : 400 ≡ status = cc in ap is_status (sym e)
-head_status (Some head) status h = by (verdict_of head.method head.headers) refl h
+head_status : (test : ℕ → Bool) → PassClosing test → (o : Option HeadParts) (status : ℕ) → by_head o ≡ Closes status → test status ≡ true
+head_status test p None status h = let e : 400 ≡ status = cc in ap test (sym e) ∙ p.malformed
+head_status test p (Some head) status h = by (verdict_of head.method head.headers) refl h
   where
-    by : (v : Verdict) → verdict_of head.method head.headers ≡ v → by_verdict head v ≡ Closes status → is_status status ≡ true
-    by (Refuses refused) e g = let s : refused ≡ status = cc in verdict_status head.method head.headers status (e ∙ ap Refuses s)
+    by : (v : Verdict) → verdict_of head.method head.headers ≡ v → by_verdict head v ≡ Closes status → test status ≡ true
+    by (Refuses refused) e g = let s : refused ≡ status = cc in verdict_status test p head.method head.headers status (e ∙ ap Refuses s)
     by (Takes n) e g = absurd cc
 
-judgement_status : (bytes : List ℕ) (status : ℕ) → judgement_of bytes ≡ Closes status → is_status status ≡ true
+judgement_status : (test : ℕ → Bool) → PassClosing test → (bytes : List ℕ) (status : ℕ) → judgement_of bytes ≡ Closes status → test status ≡ true
 unfolding judgement_of
-judgement_status bytes status h = at (has_too_many_lines bytes) (has_other_version bytes) h
+judgement_status test p bytes status h = at (has_too_many_lines bytes) (has_other_version bytes) h
   where
-    at : (a b : Bool) → cond a (Closes 431) (cond b (Closes 505) (by_head (parts_in bytes))) ≡ Closes status → is_status status ≡ true
-    at true b g = let e : 431 ≡ status = cc in ap is_status (sym e)
-    at false true g = let e : 505 ≡ status = cc in ap is_status (sym e)
-    at false false g = head_status (parts_in bytes) status g
+    at : (a b : Bool) → cond a (Closes 431) (cond b (Closes 505) (by_head (parts_in bytes))) ≡ Closes status → test status ≡ true
+    at true b g = let e : 431 ≡ status = cc in ap test (sym e) ∙ p.head_too_large
+    at false true g = let e : 505 ≡ status = cc in ap test (sym e) ∙ p.other_version
+    at false false g = head_status test p (parts_in bytes) status g
 
--- a session closes with a status that replies have
-abbrev pub ClosesKnown : First → Type 0
-ClosesKnown f = (status : ℕ) (after : TalkState) → f ≡ Has (Close status) after → is_status status ≡ true
+-- a session closes with a status that passes the test
+abbrev pub ClosesKnown : (ℕ → Bool) → First → Type 0
+ClosesKnown test f = (status : ℕ) (after : TalkState) → f ≡ Has (Close status) after → test status ≡ true
 
-pub close_status : (talk after : TalkState) (status : ℕ) → first talk ≡ Has (Close status) after → is_status status ≡ true
-close_status talk after status h = at (head_len (take 16384 talk.unread)) refl status after h
+pub close_passes : (test : ℕ → Bool) → PassClosing test → (talk after : TalkState) (status : ℕ) → first talk ≡ Has (Close status) after → test status ≡ true
+close_passes test p talk after status h = at (head_len (take 16384 talk.unread)) refl status after h
   where
-    end : (b : Bool) → ClosesKnown (cond talk.ended (Has (cond b End Cut) talk) Wants)
+    end : (b : Bool) → ClosesKnown test (cond talk.ended (Has (cond b End Cut) talk) Wants)
     end b = by talk.ended b
       where
-        by : (e b : Bool) → ClosesKnown (cond e (Has (cond b End Cut) talk) Wants)
+        by : (e b : Bool) → ClosesKnown test (cond e (Has (cond b End Cut) talk) Wants)
         by true true = λ status after h. absurd cc
         by true false = λ status after h. absurd cc
         by false b = λ status after h. absurd cc
 
-    none : (a b : Bool) → ClosesKnown (cond a (Has (Close 431) talk) (cond talk.ended (Has (cond b End Cut) talk) Wants))
-    none true b = λ status after h. (let e : 431 ≡ status = cc in ap is_status (sym e))
+    none : (a b : Bool) → ClosesKnown test (cond a (Has (Close 431) talk) (cond talk.ended (Has (cond b End Cut) talk) Wants))
+    none true b = λ status after h. (let e : 431 ≡ status = cc in ap test (sym e) ∙ p.head_too_large)
     none false b = end b
 
-    whole : (head : HeadParts) (k : ℕ) (rest : List ℕ) (w : Bool) → ClosesKnown (cond w (Has Continue (record talk { continued = true })) (Has (Request (raw_of head (take k rest))) (record talk { unread = drop k rest; continued = false })))
+    whole : (head : HeadParts) (k : ℕ) (rest : List ℕ) (w : Bool) → ClosesKnown test (cond w (Has Continue (record talk { continued = true })) (Has (Request (raw_of head (take k rest))) (record talk { unread = drop k rest; continued = false })))
     whole head k rest true = λ status after h. absurd cc
     whole head k rest false = λ status after h. absurd cc
 
-    body : (head : HeadParts) (k : ℕ) (rest : List ℕ) (a : Bool) → ClosesKnown (cond a (with_whole head k rest talk) (cond talk.ended (Has Cut talk) Wants))
+    body : (head : HeadParts) (k : ℕ) (rest : List ℕ) (a : Bool) → ClosesKnown test (cond a (with_whole head k rest talk) (cond talk.ended (Has Cut talk) Wants))
     body head k rest true = whole head k rest (expects head.minor head.headers k && not talk.continued)
     body head k rest false = end false
 
-    judged : (bytes : List ℕ) (j : Judgement) (rest : List ℕ) → judgement_of bytes ≡ j → ClosesKnown (with_head j rest talk)
-    judged bytes (Closes closing) rest e = λ status after h. (let s : closing ≡ status = cc in judgement_status bytes status (e ∙ ap Closes s))
+    judged : (bytes : List ℕ) (j : Judgement) (rest : List ℕ) → judgement_of bytes ≡ j → ClosesKnown test (with_head j rest talk)
+    judged bytes (Closes closing) rest e = λ status after h. (let s : closing ≡ status = cc in judgement_status test p bytes status (e ∙ ap Closes s))
     judged bytes (Accepts head k) rest e = body head k rest (nat_le k (length rest))
 
-    found : (o : Option ℕ) → ClosesKnown (first_at o talk)
+    found : (o : Option ℕ) → ClosesKnown test (first_at o talk)
     found None = none (nat_le 16384 (length talk.unread)) (leading talk.unread == length talk.unread)
     found (Some n) = judged (take n talk.unread) (judgement_of (take n talk.unread)) (drop n talk.unread) refl
 
-    at : (o : Option ℕ) → head_len (take 16384 talk.unread) ≡ o → ClosesKnown (first talk)
-    at o e = subst ClosesKnown (sym (first_by talk o e)) (found o)
+    at : (o : Option ℕ) → head_len (take 16384 talk.unread) ≡ o → ClosesKnown test (first talk)
+    at o e = subst (ClosesKnown test) (sym (first_by talk o e)) (found o)
+
+-- a session closes with a status that replies have
+pub close_status : (talk after : TalkState) (status : ℕ) → first talk ≡ Has (Close status) after → is_status status ≡ true
+close_status = close_passes is_status (record { malformed = refl; too_large = refl; head_too_large = refl; not_implemented = refl; other_version = refl })
 
 -- ---- what follows a 100 line
 
