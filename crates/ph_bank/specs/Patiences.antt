@@ -36,6 +36,11 @@ abbrev pub Decides : Granted → Granted → ℕ → ℕ → Bool → Type 0
 Decides before now left rest true = Grants before now left rest
 Decides before now left rest false = Refuses before now
 
+-- the counts after an answer: a grant or a refusal is counted once
+abbrev pub counted : Granted → Bool → Granted
+counted before true = record before { grants = next_count before.grants }
+counted before false = record before { refusals = next_count before.refusals }
+
 -- a patience of so many turns: those that are left, and its counts
 pub record TurnsState : Type 0 where
   pub turns : ℕ

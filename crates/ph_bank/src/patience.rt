@@ -39,12 +39,13 @@ impl Model for Turns {
 }
 
 ghost use Rattle.std.specs.Prelude.{◌≡◌, ◌-◌, nat_lt};
-ghost use Rattle.ph_bank.specs.Patiences.{Decides, Granted, started};
+ghost use Rattle.ph_bank.specs.Patiences.{Decides, Granted, counted, started};
 
 impl Turns {
-    /// A patience of so many further polls for each drive.
+    /// A patience of so many further polls for each drive. Before its first start it grants none.
     pub fn new(turns: u64) -> Self
         ensures turns { result.turns ≡ turns }
+        ensures left { result.left ≡ 0 }
         ensures counts { result.counts ≡ record { starts = 0; grants = 0; refusals = 0 } }
     {
         Turns {
@@ -74,6 +75,7 @@ impl Patience for Turns {
     fn more(&mut self) -> bool
         ensures decides { Decides self.old.counts self.new.counts self.old.left self.new.left result }
         ensures turns { self.new.turns ≡ self.old.turns }
+        ensures counts { self.new.counts ≡ counted self.old.counts result }
         ensures answer { result ≡ nat_lt 0 self.old.left }
         ensures left { self.new.left ≡ self.old.left - 1 }
     {
