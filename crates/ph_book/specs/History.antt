@@ -25,19 +25,19 @@ pub record Happening : Type 0 where
   pub rows : List Row
   pub now : ℕ
 
--- the row that every book begins with: the platform's own account
-abbrev pub opening_row : Setup → Row
-opening_row setup = record {
+-- the row that every book begins with, at its opening moment: the platform's own account
+abbrev pub opening_row : ℕ → Row
+opening_row opened = record {
   place = platform;
   object = platform;
-  at = setup.opened;
+  at = opened;
   account = platform;
   item = item.Account (record { sort = sort.Standard; email = None; metadata = [] });
 }
 
 -- the rows after what happened
 abbrev pub rows_after : Setup → List Happening → List Row
-rows_after setup past = opening_row setup ∷ flat_map (λ h. h.rows) past
+rows_after setup past = opening_row setup.opened ∷ flat_map (λ h. h.rows) past
 
 -- the time after what happened
 abbrev pub time_after : Setup → List Happening → ℕ
@@ -82,11 +82,11 @@ abbrev pub past_of : Setup → List Entry → List Happening
 past_of setup history = fold (and_then setup) [] history
 
 -- the rows of a history
-abbrev pub rows_of : Setup → List Entry → List Row
+unfoldable pub rows_of : Setup → List Entry → List Row
 rows_of setup history = rows_after setup (past_of setup history)
 
 -- the time of a history
-abbrev pub time_of : Setup → List Entry → ℕ
+unfoldable pub time_of : Setup → List Entry → ℕ
 time_of setup history = time_after setup (past_of setup history)
 
 -- what a view of a history shows
@@ -94,9 +94,9 @@ abbrev pub view_of : Setup → List Entry → ViewState
 view_of setup history = record { time = time_of setup history; rows = rows_of setup history }
 
 -- the answer to an entry after a history
-abbrev pub answer_to : Setup → List Entry → Entry → Answer
+unfoldable pub answer_to : Setup → List Entry → Entry → Answer
 answer_to setup history entry = (happening_of setup (past_of setup history) entry).answer
 
 -- the replies of a history, in the order of its entries
-abbrev pub replies_of : Setup → List Entry → List Reply
+unfoldable pub replies_of : Setup → List Entry → List Reply
 replies_of setup history = flat_map (λ h. replies_in h.answer) (past_of setup history)

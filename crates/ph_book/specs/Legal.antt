@@ -43,7 +43,7 @@ abbrev pub is_full_after : Setup → List Happening → Deed → Bool
 is_full_after setup past deed = is_full_at setup (used_after past) (weight_after setup past) deed
 
 -- a deed has no room behind a history
-abbrev pub is_full : Setup → List Entry → Deed → Bool
+unfoldable pub is_full : Setup → List Entry → Deed → Bool
 is_full setup history deed = is_full_after setup (past_of setup history) deed
 
 -- an entry may come after what happened

@@ -1,11 +1,11 @@
 //! The book.
-ghost use Rattle.std.specs.Prelude.{◌≡◌, ◌^◌, ◌<◌, ◌≤◌, ◌↔◌, [], false, IfOk, IfErr, OnOk, IsTrue};
+ghost use Rattle.std.specs.Prelude.{◌≡◌, ◌^◌, ◌<◌, ◌≤◌, ◌↔◌, ◌∷◌, [], false, IfOk, IfErr, OnOk, IsTrue};
 ghost use Rattle.ph_rows.specs.Sound.{clock_limit};
 ghost use Rattle.ph_lock.specs.declared.object.Refused.{Refused};
 ghost use Rattle.ph_book.specs.declared.acts.Deed.TheVariants as deed;
 ghost use Rattle.ph_book.specs.State.{BookState, entered};
 ghost use Rattle.ph_book.specs.Entries.{deed_of, entry_of};
-ghost use Rattle.ph_book.specs.History.{answer_to};
+ghost use Rattle.ph_book.specs.History.{answer_to, opening_row};
 ghost use Rattle.ph_book.specs.Replies.{HasStatus};
 ghost use Rattle.ph_book.specs.Legal.{is_full, IsLegal};
 
@@ -42,7 +42,10 @@ impl Model for Book {
 }
 
 // The view that every book begins with: the platform's own account.
-fn opening_view(alloc: Global, opened: u64) -> Result<ListView, NoMemory> {
+fn opening_view(alloc: Global, opened: u64) -> Result<ListView, NoMemory>
+    ensures rows { IfOk result (λ view. view.rows ≡ opening_row opened ∷ []) }
+    ensures time { IfOk result (λ view. view.time ≡ opened) }
+{
     let mut opening = Vec::new(alloc);
     opening.push(Row {
         place: PLATFORM,
@@ -117,7 +120,10 @@ impl Book {
         let Some(weight) = weights::weight_with_call(self.weight, &raw, rows.as_slice()) else {
             return Err((raw, Refused::NoMemory));
         };
-        if self.entries.reserve(1).is_err() || self.view.reserve(rows.len()).is_err() {
+        if self.entries.reserve(1).is_err() {
+            return Err((raw, Refused::NoMemory));
+        }
+        if self.view.reserve(rows.len()).is_err() {
             return Err((raw, Refused::NoMemory));
         }
         self.entries.push_reserved(Entry {

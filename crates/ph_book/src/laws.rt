@@ -1,4 +1,5 @@
 //! What holds of every legal history.
+ghost use Rattle.std.specs.Prelude.{◌<◌, ◌^◌};
 ghost use Rattle.ph_book.specs.History.{rows_of};
 ghost use Rattle.ph_book.specs.Legal.{IsLegal};
 ghost use Rattle.ph_book.specs.Laws.{HaveDifferentIds};
@@ -14,10 +15,15 @@ pub fn history_is_legal(book: &Book)
     let _history = book.history();
 }
 
+// A setup has room for fewer than 2^32 entries.
+fn few_entries(_entries: u32)
+    ensures { _entries < 2 ^ 32 }
+{}
+
 /// The first versions of different objects have different ids.
 pub fn ids_differ(setup: &Setup, _history: &[Entry])
     requires { IsLegal setup.now _history.now }
     ensures { HaveDifferentIds (rows_of setup.now _history.now) }
 {
-    let _entries = setup.entries;
+    few_entries(setup.entries);
 }
