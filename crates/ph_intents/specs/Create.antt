@@ -1,0 +1,46 @@
+-- The create: a payment intent that isn't confirmed yet.
+use Rattle.std.specs.Prelude.{ℕ, ◌+◌, List, Option, None, Some, unwrap_or}
+use Rattle.ph_calls.specs.declared.call.CreateIntent.{CreateIntent}
+use Rattle.ph_calls.specs.Outcomes.{Outcome, Adds}
+use Rattle.ph_rows.specs.declared.rows.Row.{Row}
+use Rattle.ph_rows.specs.declared.intents.Intent.{Intent}
+use Rattle.ph_rows.specs.declared.intents.IntentStatus.{IntentStatus}
+use Rattle.ph_rows.specs.declared.intents.IntentStatus.TheVariants as status
+use Rattle.ph_rows.specs.declared.intents.CaptureMethod.TheVariants as capture_method
+use Rattle.ph_rows.specs.declared.items.Item.TheVariants as item
+use Rattle.ph_rows.specs.declared.payment_methods.PaymentMethod.{PaymentMethod}
+use Rattle.ph_rows.specs.declared.event_kinds.EventKind.TheVariants as event
+use Rattle.ph_rows.specs.Batches.{BatchState, last_place, with_row, with_announced}
+use Rattle.ph_intents.specs.Metadata.{first_metadata}
+
+-- where a payment intent begins: it waits for a payment method, or for its confirmation where it has one
+abbrev pub first_status : Option PaymentMethod → IntentStatus
+first_status None = status.RequiresPaymentMethod
+first_status (Some method) = status.RequiresConfirmation
+
+-- the first version of a payment intent, in a status: each field from the call, or its default
+abbrev pub new_intent : CreateIntent → IntentStatus → Intent
+new_intent call status = record {
+  amount = call.amount;
+  amount_capturable = 0;
+  amount_received = 0;
+  currency = call.currency;
+  status = status;
+  capture_method = unwrap_or call.capture_method capture_method.Automatic;
+  payment_method = call.payment_method;
+  cancellation_reason = None;
+  last_payment_error = None;
+  description = call.description;
+  metadata = first_metadata call.metadata;
+  transfer_group = call.transfer_group;
+}
+
+-- the batch with the first version of a payment intent
+abbrev pub with_intent : ℕ → Intent → BatchState → BatchState
+with_intent account intent batch = with_row batch (last_place batch + 1) account (item.Intent intent)
+
+-- the create: the payment intent has the next place as its number, and is announced; it is never refused
+abbrev pub create_outcome : List Row → ℕ → CreateIntent → BatchState → Outcome
+create_outcome rows account call batch =
+    Adds (last_place batch + 1)
+    (with_announced (with_intent account (new_intent call (first_status call.payment_method)) batch) event.IntentCreated (last_place batch + 1))

@@ -1,0 +1,3 @@
+pub mod Create
+pub mod Finding
+pub mod Metadata

@@ -1,0 +1,58 @@
+//! A new payment intent.
+ghost use Rattle.std.specs.Prelude.{◌≡◌, IfOk};
+ghost use Rattle.ph_calls.specs.Outcomes.{Gives};
+ghost use Rattle.ph_intents.specs.Create.{create_outcome, new_intent};
+
+use crate::copies::{copy_method, copy_text};
+use crate::metadata::first_metadata;
+use ph_base::NoMemory;
+use ph_calls::CreateIntent;
+use ph_errors::Refusal;
+use ph_money::Amount;
+use ph_rows::{Batch, CaptureMethod, EventKind, Intent, IntentStatus, Item, View};
+use std::alloc::Global;
+
+/// The first version of a payment intent, in a status: each field from the call, or its default.
+pub fn new_intent(
+    alloc: Global,
+    call: &CreateIntent,
+    status: IntentStatus,
+) -> Result<Intent, NoMemory>
+    ensures { IfOk result (λ intent. intent ≡ new_intent call.now status) }
+{
+    Ok(Intent {
+        amount: call.amount,
+        amount_capturable: Amount::new(0),
+        amount_received: Amount::new(0),
+        currency: call.currency,
+        status,
+        capture_method: call.capture_method.unwrap_or(CaptureMethod::Automatic),
+        payment_method: copy_method(alloc, call.payment_method.as_ref())?,
+        cancellation_reason: None,
+        last_payment_error: None,
+        description: copy_text(alloc, call.description.as_ref())?,
+        metadata: first_metadata(alloc, call.metadata.as_ref())?,
+        transfer_group: copy_text(alloc, call.transfer_group.as_ref())?,
+    })
+}
+
+/// Adds a payment intent that isn't confirmed, and announces it. The answer is its number. It is never refused but
+/// for want of memory.
+pub fn create<V: View>(
+    alloc: Global,
+    view: &V,
+    account: u64,
+    call: &CreateIntent,
+    batch: &mut Batch,
+) -> Result<u64, Refusal>
+    ensures { Gives (create_outcome (V.state view.now).rows account call.now batch.old) result batch.new }
+{
+    let status = match call.payment_method {
+        Some(_) => IntentStatus::RequiresConfirmation,
+        None => IntentStatus::RequiresPaymentMethod,
+    };
+    let intent = new_intent(alloc, call, status)?;
+    let object = batch.add(account, Item::Intent(intent))?;
+    batch.announce(EventKind::IntentCreated, object)?;
+    Ok(object)
+}
