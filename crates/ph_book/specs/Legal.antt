@@ -1,0 +1,62 @@
+-- What a history weighs, what has no room behind it, and which histories are legal.
+use Rattle.std.specs.Prelude.{◌≡◌, ℕ, ◌+◌, ◌^◌, ◌<◌, ◌≤◌, Bool, false, ◌||◌, nat_lt, List, [], ◌∷◌, length, Option, Some, None}
+use Rattle.std.specs.List.{sum_by}
+use Rattle.ph_rows.specs.Sound.{clock_limit}
+use Rattle.ph_rows.specs.Weights.{rows_weight}
+use Rattle.ph_http.specs.declared.message.Raw.{Raw}
+use Rattle.ph_book.specs.declared.setup.Setup.{Setup}
+use Rattle.ph_book.specs.declared.acts.Entry.{Entry}
+use Rattle.ph_book.specs.declared.acts.Deed.{Deed}
+use Rattle.ph_book.specs.declared.acts.Deed.TheVariants as deed
+use Rattle.ph_book.specs.History.{Happening, rows_after, and_then, past_of}
+
+-- the length of a text that may be missing
+abbrev pub length_if : Option (List ℕ) → ℕ
+length_if None = 0
+length_if (Some text) = length text
+
+-- what a request weighs: the lengths of its fields
+abbrev pub raw_weight : Raw → ℕ
+raw_weight raw =
+    length raw.method + length raw.path + length_if raw.query + length_if raw.auth + length_if raw.key
+    + length_if raw.account + length raw.body
+
+-- what a deed weighs
+abbrev pub deed_weight : Deed → ℕ
+deed_weight (deed.Call raw) = raw_weight raw
+
+-- the weight of what happened: that of the calls, and that of the rows
+abbrev pub weight_after : Setup → List Happening → ℕ
+weight_after setup past = sum_by (λ h. deed_weight h.entry.deed) past + rows_weight (rows_after setup past)
+
+-- the places that are taken after what happened
+abbrev pub used_after : List Happening → ℕ
+used_after past = length past
+
+-- a deed has no room where so many places are taken and so much weighs: a call takes two places, and its weight
+abbrev pub is_full_at : Setup → ℕ → ℕ → Deed → Bool
+is_full_at setup used weight (deed.Call raw) =
+    nat_lt setup.entries (used + 2) || nat_lt setup.weight (weight + raw_weight raw)
+
+-- a deed has no room after what happened
+abbrev pub is_full_after : Setup → List Happening → Deed → Bool
+is_full_after setup past deed = is_full_at setup (used_after past) (weight_after setup past) deed
+
+-- a deed has no room behind a history
+unfoldable pub is_full : Setup → List Entry → Deed → Bool
+is_full setup history deed = is_full_after setup (past_of setup history) deed
+
+-- an entry may come after what happened
+pub record IsAllowed (setup : Setup) (past : List Happening) (entry : Entry) : Type 0 where
+  pub caller : entry.caller < 2 ^ 62
+  pub room : is_full_after setup past entry.deed ≡ false
+
+-- each of these entries may come after those before it
+abbrev pub AreAllowed : Setup → List Happening → List Entry → Type 0
+AreAllowed setup past [] = Unit {0}
+AreAllowed setup past (entry ∷ entries) = IsAllowed setup past entry × AreAllowed setup (and_then setup past entry) entries
+
+-- a legal history: it opens at a moment that the clock shows, and each entry may come where it stands
+pub record IsLegal (setup : Setup) (history : List Entry) : Type 0 where
+  pub opened : setup.opened ≤ clock_limit
+  pub allowed : AreAllowed setup [] history

@@ -1,0 +1,29 @@
+//! What holds of every legal history.
+ghost use Rattle.std.specs.Prelude.{◌<◌, ◌^◌};
+ghost use Rattle.ph_book.specs.History.{rows_of};
+ghost use Rattle.ph_book.specs.Legal.{IsLegal};
+ghost use Rattle.ph_book.specs.Laws.{HaveDifferentIds};
+
+use crate::acts::Entry;
+use crate::book::Book;
+use crate::setup::Setup;
+
+/// The history of a book is legal.
+pub fn history_is_legal(book: &Book)
+    ensures { IsLegal book.now.setup book.now.history }
+{
+    let _history = book.history();
+}
+
+// A setup has room for fewer than 2^32 entries.
+fn few_entries(_entries: u32)
+    ensures { _entries < 2 ^ 32 }
+{}
+
+/// The first versions of different objects have different ids.
+pub fn ids_differ(setup: &Setup, _history: &[Entry])
+    requires { IsLegal setup.now _history.now }
+    ensures { HaveDifferentIds (rows_of setup.now _history.now) }
+{
+    few_entries(setup.entries);
+}

@@ -1,0 +1,16 @@
+//! The book: a setup and one history of entries, and what follows from it.
+#![tactic(auto)]
+
+mod acts;
+mod book;
+mod calls;
+mod laws;
+mod replies;
+mod setup;
+mod weights;
+
+pub use acts::{Act, Answer, Deed, Entry};
+pub use book::Book;
+pub use laws::{history_is_legal, ids_differ};
+pub use ph_lock::Refused;
+pub use setup::Setup;

@@ -1,0 +1,16 @@
+//! What a book is made with.
+
+use ph_base::Bytes;
+
+/// What a book is made with.
+#[derive(Drop, Debug)]
+pub struct Setup {
+    /// The API key that every request has to present.
+    pub key: Bytes,
+    /// The opening moment, in seconds since 1970: the time until the clock is set.
+    pub opened: u64,
+    /// For how many entries the history has room.
+    pub entries: u32,
+    /// How much the history may weigh: the bytes of its requests, and of its rows 256 each and the bytes of their texts.
+    pub weight: u64,
+}

@@ -1,0 +1,66 @@
+//! What entries weigh, and what has no room.
+ghost use Rattle.std.specs.Prelude.{◌≡◌, ◌+◌, ◌<◌, ◌^◌, length, nat_lt};
+ghost use Rattle.ph_rows.specs.Weights.{rows_weight, FitsOrNone};
+ghost use Rattle.ph_book.specs.Legal.{is_full_at, length_if, raw_weight};
+ghost use Rattle.ph_book.specs.declared.acts.Deed.TheVariants as deed;
+
+use crate::setup::Setup;
+use ph_base::Bytes;
+use ph_http::Raw;
+use ph_rows::{Row, weight_with_rows};
+
+// A sum and the length of a text.
+fn plus_text(sum: u64, text: &Bytes) -> Option<u64>
+    ensures { FitsOrNone result (sum + length text.now) }
+{
+    sum.checked_add(text.as_slice().len() as u64)
+}
+
+// A sum and the length of a text, where there is one.
+fn plus_text_if(sum: u64, text: &Option<Bytes>) -> Option<u64>
+    ensures { FitsOrNone result (sum + length_if text.now) }
+{
+    match text {
+        Some(text) => plus_text(sum, text),
+        None => Some(sum),
+    }
+}
+
+// A weight and that of a request. None exactly where 64 bits don't hold it.
+fn weight_with_raw(weight: u64, raw: &Raw) -> Option<u64>
+    ensures { FitsOrNone result (weight + raw_weight raw.now) }
+{
+    let sum = plus_text(weight, &raw.method)?;
+    let sum = plus_text(sum, &raw.path)?;
+    let sum = plus_text_if(sum, &raw.query)?;
+    let sum = plus_text_if(sum, &raw.auth)?;
+    let sum = plus_text_if(sum, &raw.key)?;
+    let sum = plus_text_if(sum, &raw.account)?;
+    plus_text(sum, &raw.body)
+}
+
+/// A weight, that of a request and that of rows. None exactly where 64 bits don't hold it.
+pub fn weight_with_call(weight: u64, raw: &Raw, rows: &[Row]) -> Option<u64>
+    ensures { FitsOrNone result (weight + raw_weight raw.now + rows_weight rows.now) }
+{
+    let sum = weight_with_raw(weight, raw)?;
+    weight_with_rows(sum, rows)
+}
+
+/// Whether a call has no room, where so many places are taken and so much weighs.
+pub fn is_full(setup: &Setup, used: u64, weight: u64, raw: &Raw) -> bool
+    requires { used < 2 ^ 63 }
+    ensures { result ≡ is_full_at setup.now used weight (deed.Call raw.now) }
+{
+    (setup.entries as u64) < used + 2 || is_too_heavy(setup.weight, weight, raw)
+}
+
+// Whether a weight and that of a request are above a limit.
+fn is_too_heavy(limit: u64, weight: u64, raw: &Raw) -> bool
+    ensures { result ≡ nat_lt limit (weight + raw_weight raw.now) }
+{
+    match weight_with_raw(weight, raw) {
+        Some(sum) => limit < sum,
+        None => true,
+    }
+}

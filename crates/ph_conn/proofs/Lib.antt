@@ -1,0 +1,6 @@
+mod ItemFacts
+mod ReadLemmas
+mod ServedLemmas
+mod SessionLemmas
+mod TextLemmas
+mod WriteLemmas

@@ -1,0 +1,6 @@
+use Rattle.ph_conn.proofs.SessionLemmas.{Serving}
+use Rattle.ph_conn.proofs.sessions.serve_solo.Given as goal
+
+abbrev pub invariant-loop-i : goal.invariant-loop-i
+invariant-loop-i g l =
+    Serving l.rules.limit l.i l.talk l.fn.book l.book (g.S.Source.source l.fn.input) (g.S.Source.source l.input) (g.K.Sink.sink l.fn.output) (g.K.Sink.sink l.output)

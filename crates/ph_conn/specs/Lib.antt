@@ -1,0 +1,6 @@
+pub mod Answers
+pub mod Reads
+pub mod Served
+pub mod Sends
+pub mod Session
+pub mod Texts

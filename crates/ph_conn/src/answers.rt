@@ -1,0 +1,31 @@
+//! One request, entered in the book.
+ghost use Rattle.ph_conn.specs.Answers.{Answers};
+
+use ph_book::{Act, Answer, Book};
+use ph_http::{Raw, Reply};
+use ph_lock::Refused;
+
+/// What became of a request.
+#[derive(Drop)]
+pub enum Outcome {
+    /// It was entered, and this is its reply.
+    Reply(Reply),
+    /// The book had no room for it. It isn't entered.
+    Full,
+    /// There was no memory for it. It isn't entered.
+    NoMemory,
+}
+
+/// Enters a request as a call of caller 0.
+pub fn answer(book: &mut Book, raw: Raw) -> Outcome
+    ensures { Answers book.old book.new raw result }
+{
+    match book.apply(0, Act::Call(raw)) {
+        Ok(Answer::Reply(reply)) => {
+            let _ = book.history();
+            Outcome::Reply(reply)
+        }
+        Err((_, Refused::Full)) => Outcome::Full,
+        Err((_, Refused::NoMemory)) => Outcome::NoMemory,
+    }
+}
