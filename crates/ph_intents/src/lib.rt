@@ -16,6 +16,8 @@ mod metadata;
 mod refusals;
 mod settlement;
 mod statuses;
+#[cfg(test)]
+mod tests;
 mod updating;
 mod versions;
 
