@@ -16,7 +16,7 @@ use Rattle.ph_book.specs.declared.acts.Answer.{Answer}
 use Rattle.ph_book.specs.Replies.{replies_in}
 use Rattle.ph_book.specs.History.{Happening, opening_row, rows_after, time_after, answer_at, happens, happening_of, and_then, past_of, rows_of, time_of, answer_to, replies_of}
 use Rattle.ph_book.specs.Legal.{deed_weight, weight_after, used_after, is_full_at, is_full_after, is_full, IsAllowed, AreAllowed, IsLegal}
-use Rattle.ph_book.specs.State.{BookState, IsBook}
+use Rattle.ph_book.specs.State.{BookState, entered, IsBook}
 
 -- a history with one entry more is read as the one before, and then the entry
 pub past_more : (setup : Setup) (history : List Entry) (entry : Entry)
@@ -71,6 +71,15 @@ replies_more setup history entry =
     ap (flat_map replies) (past_more setup history entry)
     ∙ flat_map-append replies (past_of setup history) (h ∷ [])
     ∙ ap (λ more. flat_map replies (past_of setup history) ++ more) (append-nil (replies_in h.answer))
+
+-- the replies of a book that has an entry more, which was answered so
+pub replies_grow : (old new : BookState) (entry : Entry) (given : Answer) → new ≡ entered old entry
+    → given ≡ answer_to old.setup old.history entry
+    → replies_of new.setup new.history ≡ replies_of old.setup old.history ++ replies_in given
+replies_grow old new entry given is said =
+    ap (λ (book : BookState). replies_of book.setup book.history) is
+    ∙ replies_more old.setup old.history entry
+    ∙ ap (λ answer. replies_of old.setup old.history ++ replies_in answer) (sym said)
 
 -- a legal history with one entry more that may come
 allowed_more : (setup : Setup) (past : List Happening) (history : List Entry) (entry : Entry) → AreAllowed setup past history

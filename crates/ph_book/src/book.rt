@@ -1,12 +1,12 @@
 //! The book.
-ghost use Rattle.std.specs.Prelude.{◌≡◌, ◌^◌, ◌<◌, ◌≤◌, ◌↔◌, ◌∷◌, [], false, IfOk, IfErr, OnOk, IsTrue};
+ghost use Rattle.std.specs.Prelude.{◌≡◌, ◌^◌, ◌<◌, ◌≤◌, ◌↔◌, ◌∷◌, ◌++◌, [], false, IfOk, IfErr, OnOk, IsTrue};
 ghost use Rattle.ph_rows.specs.Sound.{clock_limit};
 ghost use Rattle.ph_lock.specs.declared.object.Refused.{Refused};
 ghost use Rattle.ph_book.specs.declared.acts.Deed.TheVariants as deed;
 ghost use Rattle.ph_book.specs.State.{BookState, entered};
 ghost use Rattle.ph_book.specs.Entries.{deed_of, entry_of};
-ghost use Rattle.ph_book.specs.History.{answer_to, opening_row};
-ghost use Rattle.ph_book.specs.Replies.{HasStatus};
+ghost use Rattle.ph_book.specs.History.{answer_to, opening_row, replies_of};
+ghost use Rattle.ph_book.specs.Replies.{HasStatus, replies_in};
 ghost use Rattle.ph_book.specs.Legal.{is_full, IsLegal};
 
 use crate::acts::{Act, Answer, Deed, Entry};
@@ -81,11 +81,13 @@ impl Book {
     }
 
     /// Enters an act of a caller as one entry and answers it, or hands it back and changes nothing.
+    #[tactic(auto, using(crate::proofs::HistoryLemmas::replies_grow))]
     pub fn apply(&mut self, caller: u64, act: Act) -> Result<Answer, (Act, Refused)>
         requires caller { caller < 2 ^ 62 }
         ensures entry { OnOk result (self.new ≡ entered self.old (entry_of caller act)) }
         ensures answer { IfOk result (λ answer. answer ≡ answer_to self.old.setup self.old.history (entry_of caller act)) }
         ensures status { IfOk result (λ answer. HasStatus answer) }
+        ensures replies { IfOk result (λ answer. replies_of self.new.setup self.new.history ≡ replies_of self.old.setup self.old.history ++ replies_in answer) }
         ensures unchanged { IfErr result (λ refused. (refused.0 ≡ act) × (self.new ≡ self.old)) }
         ensures full { IfErr result (λ refused. (refused.1 ≡ Refused.Full) ↔ IsTrue (is_full self.old.setup self.old.history (deed_of act))) }
         ensures room { OnOk result (is_full self.old.setup self.old.history (deed_of act) ≡ false) }

@@ -7,6 +7,8 @@ mod calls;
 mod laws;
 mod replies;
 mod setup;
+#[cfg(test)]
+mod tests;
 mod weights;
 
 pub use acts::{Act, Answer, Deed, Entry};

@@ -1,0 +1,6 @@
+//! Requests over a book, with their replies byte for byte.
+
+mod answers;
+mod room;
+mod shown;
+mod tables;
