@@ -1,3 +1,4 @@
+mod AnswerLemmas
 mod ItemFacts
 mod ReadLemmas
 mod ServedLemmas

@@ -591,3 +591,11 @@ stops_asked {limit} {i} {n} {talk} {raw} {book0} {book1} {input0} {input1} {outp
     ∙ ap (λ told. told ++ next_line items limit d.replies) last.2 ∙ ap (λ l. d.text ++ l) last.3 ∙ append-nil d.text in
     subst (λ (c : Closed). Session (Ok c) limit book0 book1 input0 input1 output0 output1) (sym is)
     (session_of d.grown_by d.bytes d.moved (sym (items_lead (talk_of d.bytes false) talk d.given d.led)) (sym last.0) (subst (Takes output0 output1) (sym out) d.wrote) (last.1, sym d.count))
+
+-- ---- a session that did nothing
+
+pub none_served : {output0 output1 : SinkState} (why : TalkError) (limit : ℕ) (book : BookState) (input : SourceState) → IsLegal book.setup book.history → Parts fixed.NoMemory fault.NoMemory why output0 output1
+    → Session (Err why) limit book book input input output0 output1
+none_served {output0} {output1} why limit book input legal parts =
+    let nothing : Fetches (talk_of [] false) (talk_of [] false) fetched.NoMemory input input = record { bytes = []; read = inl (moves_nothing input); item = tt } in
+    stops_out why (begins limit book input output0 legal) nothing parts

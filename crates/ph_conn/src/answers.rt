@@ -1,4 +1,5 @@
 //! One request, entered in the book.
+ghost use Rattle.std.specs.Prelude.{◌≡◌};
 ghost use Rattle.ph_conn.specs.Answers.{Answers};
 
 use ph_book::{Act, Answer, Book};
@@ -21,11 +22,20 @@ pub fn answer(book: &mut Book, raw: Raw) -> Outcome
     ensures { Answers book.old book.new raw result }
 {
     match book.apply(0, Act::Call(raw)) {
-        Ok(Answer::Reply(reply)) => {
+        Ok(answer) => {
             let _ = book.history();
-            Outcome::Reply(reply)
+            Outcome::Reply(reply_in(answer))
         }
         Err((_, Refused::Full)) => Outcome::Full,
         Err((_, Refused::NoMemory)) => Outcome::NoMemory,
+    }
+}
+
+// The reply that an answer is.
+fn reply_in(answer: Answer) -> Reply
+    ensures { answer ≡ Answer.Reply result }
+{
+    match answer {
+        Answer::Reply(reply) => reply,
     }
 }

@@ -11,4 +11,4 @@ mod texts;
 
 pub use endings::{Closed, Stop, TalkError};
 pub use rules::TalkRules;
-pub use sessions::serve_solo;
+pub use sessions::{serve_none, serve_solo};

@@ -1,5 +1,8 @@
 //! A session over a book that no one else has.
-ghost use Rattle.std.specs.Prelude.{◌≡◌, ◌==◌, ◌||◌, ◌<◌, ◌+◌};
+ghost use Rattle.std.specs.Prelude.{◌≡◌, ℕ, ◌==◌, ◌||◌, ◌<◌, ◌+◌};
+ghost use Rattle.ph_io.specs.Told.{SourceState};
+ghost use Rattle.ph_book.specs.Legal.{IsLegal};
+ghost use Rattle.ph_book.specs.State.{BookState};
 ghost use Rattle.ph_conn.specs.Sends.{IsWritable, Sends};
 ghost use Rattle.ph_conn.specs.Session.{Session};
 
@@ -59,6 +62,14 @@ pub fn serve_solo<S: Source, K: Sink>(
         }
     }
     Ok(closed(rules.limit, Stop::Limit))
+}
+
+/// What a session does for whose book there is no memory: it reads nothing, and 503 `no_memory` is written.
+pub fn serve_none<K: Sink>(output: &mut K) -> TalkError
+    ensures { (limit : ℕ) (book : BookState) (input : SourceState) → IsLegal book.setup book.history
+        → Session (Err result) limit book book input input (K.sink output.old) (K.sink output.new) }
+{
+    part(output, Fixed::NoMemory, TalkError::NoMemory)
 }
 
 // The end of a session after so many replies.

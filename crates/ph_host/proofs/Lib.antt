@@ -1,5 +1,1 @@
-pub mod BookLemmas
-pub mod ItemFacts
-pub mod FetchLemmas
-pub mod ServedLemmas
-pub mod SessionLemmas
+mod SetupLemmas

@@ -1,9 +1,4 @@
-pub mod Calls
-pub mod Docs
-pub mod Endings
-pub mod Fetch
-pub mod History
+pub mod Options
 pub mod Plans
-pub mod Served
-pub mod Session
-pub mod Written
+pub mod Runs
+pub mod Setups

@@ -1,16 +1,15 @@
 -- What the words of the command line ask for.
-use Rattle.std.specs.Prelude.{ℕ, ◌⊎◌, List, [], ◌∷◌, ◌++◌, codes, if◌then◌else◌}
-use Rattle.std.specs.Str.{bytes_eq}
+use Rattle.std.specs.Prelude.{ℕ, ◌⊎◌, ◌&&◌, List, [], ◌∷◌, ◌++◌, codes, bytes_eq, if◌then◌else◌}
 use Rattle.ph_io.specs.Told.{SinkState}
 use Rattle.ph_io.specs.Writes.{Takes, TakesFront}
+use Rattle.ph_host.specs.Options.{are_options}
 use Rattle.ph_host.specs.declared.plans.Plan.{Plan}
 use Rattle.ph_host.specs.declared.plans.Plan.TheVariants.{Once, Usage}
 
--- the plan that the words name: for now, `stdio` alone
+-- the plan that the words name: for now, `stdio` with its options
 abbrev pub plan_of : List (List ℕ) → Plan
 plan_of [] = Usage
-plan_of (word ∷ []) = if bytes_eq word (codes "stdio") then Once else Usage
-plan_of (word ∷ next ∷ words) = Usage
+plan_of (word ∷ words) = if bytes_eq word (codes "stdio") && are_options words then Once else Usage
 
 -- the line that says which commands there are
 abbrev pub usage_line : List ℕ

@@ -1,52 +1,59 @@
 //! What the words of the command line ask for, and the top call that does it.
 ghost use Rattle.std.specs.Prelude.{◌≡◌};
 ghost use Rattle.ph_base.specs.Counts.{Rose};
-ghost use Rattle.ph_host.specs.Endings.{status_of};
 ghost use Rattle.ph_host.specs.Plans.{WritesUsage, plan_of};
-ghost use Rattle.ph_host.specs.Session.{Session};
-ghost use Rattle.ph_host.specs.declared.endings.Ending.{Ending};
+ghost use Rattle.ph_host.specs.Runs.{EndsFull, Runs, status_of};
 
-use crate::endings::Ending;
+use crate::options::are_options;
 use crate::plans::Plan;
-use crate::session::serve;
-use ph_base::Bytes;
+use crate::setups::book;
+use ph_base::{Bytes, NoMemory};
+use ph_conn::{Closed, Stop, TalkError, TalkRules, serve_none, serve_solo};
 use ph_io::{Sink, Source, write_all};
 use std::alloc::Global;
 
-/// The plan that the words name, without the program's own name. For now `stdio` alone is one; any
-/// other words are `Usage`. It takes no memory.
+// How many requests the session of `stdio` serves.
+const LIMIT: u32 = 100_000;
+
+/// The plan that the words name, without the program's own name. It takes no memory.
+///
+/// `stdio [--key K] [--clock T]` asks for a session over standard input and output. The options stand in any order,
+/// each at most once, and each takes the next word as its value. `K` is the API key, 9 to 255 bytes from `!` to `~`
+/// that begin with `sk_test_`, and `sk_test_payhost` where it isn't given. `T` is the opening moment in seconds since
+/// 1970, at most 253402300799, and 1700000000 where it isn't given. Any other words are `Usage`.
 pub fn plan(words: &[Bytes]) -> Plan
     ensures { result ≡ plan_of words.now }
 {
     match words {
-        [word] if word.as_slice() == b"stdio".as_slice() => Plan::Once,
+        [word, options @ ..] if word.as_slice() == b"stdio".as_slice() && are_options(options) => Plan::Once,
         _ => Plan::Usage,
     }
 }
 
 /// Runs what the words ask for over this input and output, and answers the exit status.
 ///
-/// `stdio` serves one session: requests are read to the end of the input, and each reply is written
-/// before the next request is read. The status is
+/// `stdio` serves one session: requests are read to the end of the input, and each reply is written before the next
+/// request is read. The history has room for 200,000 entries and a weight of 536,870,912. The status is
 ///
 /// | status | where |
 /// |---|---|
 /// | 0 | the input was read to its end, or a request asked for the end |
-/// | 1 | a request was refused with a closing reply, or 1,000 requests were answered |
+/// | 1 | a request was refused with a closing reply, or 100,000 requests were answered |
 /// | 2 | the words ask for nothing that payhost does: the output is the usage line |
 /// | 3 | a read failed |
 /// | 4 | a write failed |
 /// | 5 | the input ended within a request |
 /// | 6 | there was no memory |
+/// | 9 | the history had no room for a request |
 pub fn run_once<S: Source, K: Sink>(
     alloc: Global,
     words: &[Bytes],
     input: &mut S,
     output: &mut K,
 ) -> u8
-    // The session ended in one way, which gives the status.
-    ensures stdio { plan_of words.now ≡ Plan.Once → (ending : Ending) × (result ≡ status_of ending)
-        × Session ending (S.source input.old) (S.source input.new) (K.sink output.old) (K.sink output.new) }
+    // One session was served, whose ending gives the status.
+    ensures stdio { plan_of words.now ≡ Plan.Once →
+        Runs words.now result (S.source input.old) (S.source input.new) (K.sink output.old) (K.sink output.new) }
 
     ensures usage { plan_of words.now ≡ Plan.Usage → (result ≡ 2)
         × (S.source input.new ≡ S.source input.old) × WritesUsage (K.sink output.old) (K.sink output.new) }
@@ -54,10 +61,32 @@ pub fn run_once<S: Source, K: Sink>(
     // A fault is answered only where the device counted one.
     ensures read_fault { result ≡ 3 → Rose (S.source input.old).faults (S.source input.new).faults }
     ensures write_fault { result ≡ 4 → Rose (K.sink output.old).faults (K.sink output.new).faults }
+
+    // A full history is answered only where the book has no room for the request that is refused.
+    ensures full { result ≡ 9 →
+        EndsFull words.now (S.source input.old) (S.source input.new) (K.sink output.old) (K.sink output.new) }
 {
     match plan(words) {
         Plan::Usage => usage(output),
-        Plan::Once => status(serve(alloc, input, output)),
+        Plan::Once => stdio(alloc, words, input, output),
+    }
+}
+
+// Serves one session over a new book of the words' setup.
+fn stdio<S: Source, K: Sink>(
+    alloc: Global,
+    words: &[Bytes],
+    input: &mut S,
+    output: &mut K,
+) -> u8
+    ensures { Runs words.now result (S.source input.old) (S.source input.new) (K.sink output.old) (K.sink output.new) }
+{
+    match book(alloc, words) {
+        Ok(mut book) => {
+            let rules = TalkRules { limit: LIMIT };
+            status(serve_solo(alloc, &mut book, input, output, &rules))
+        }
+        Err(NoMemory) => status(Err(serve_none(output))),
     }
 }
 
@@ -76,15 +105,18 @@ fn usage<K: Sink>(output: &mut K) -> u8
 }
 
 // The exit status of an ending.
-fn status(ending: Ending) -> u8
+fn status(ending: Result<Closed, TalkError>) -> u8
     ensures { result ≡ status_of ending }
 {
     match ending {
-        Ending::End | Ending::Asked => 0,
-        Ending::Refused(_) | Ending::Limit => 1,
-        Ending::ReadFault => 3,
-        Ending::WriteFault => 4,
-        Ending::Cut => 5,
-        Ending::NoMemory => 6,
+        Ok(closed) => match closed.stop {
+            Stop::End | Stop::Asked => 0,
+            Stop::Limit | Stop::Refused(_) => 1,
+        },
+        Err(TalkError::ReadFault) => 3,
+        Err(TalkError::WriteFault) => 4,
+        Err(TalkError::Cut) => 5,
+        Err(TalkError::NoMemory) => 6,
+        Err(TalkError::Full) => 9,
     }
 }

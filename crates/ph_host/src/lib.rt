@@ -1,16 +1,10 @@
-//! The top call of payhost: what the words of the command line ask for, run over a source and a sink.
+//! The words of the command line, and the top call of payhost, which runs what they ask for over a source and a sink.
 #![tactic(auto)]
 
-mod book;
-mod calls;
-mod docs;
-mod endings;
-mod fetch;
 mod host;
+mod options;
 mod plans;
-mod session;
-#[cfg(test)]
-mod tests;
+mod setups;
 
 pub use host::{plan, run_once};
 pub use plans::Plan;

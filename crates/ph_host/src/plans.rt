@@ -1,3 +1,5 @@
+//! What the words of the command line ask for.
+
 /// What the words of the command line ask for.
 #[derive(Clone, Copy, Debug, PartialEq, Eq)]
 pub enum Plan {

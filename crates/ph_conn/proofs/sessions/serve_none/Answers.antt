@@ -1,0 +1,5 @@
+use Rattle.ph_conn.proofs.SessionLemmas.{none_served}
+use Rattle.ph_conn.proofs.sessions.serve_none.Goals as goal
+
+pub returns : goal.returns
+returns g c = λ limit book input legal. none_served _ limit book input legal c.part.ensures

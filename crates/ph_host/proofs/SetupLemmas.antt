@@ -1,0 +1,26 @@
+-- The opening moment is one that a clock shows.
+use Rattle.std.proofs.Common.{◌≡◌, ℕ, ◌≤◌, Bool, true, false, cond, nat_le, List, drop, codes, Option, Some, None, refl, arith}
+use Rattle.std.specs.Option.{unwrap_or, option_and_then}
+use Rattle.std.proofs.lemmas.Bool.Decides.{nat_tests}
+use Rattle.ph_base.specs.Numbers.{number_in}
+use Rattle.ph_rows.specs.Sound.{clock_limit}
+use Rattle.ph_book.specs.Legal.{IsLegal}
+use Rattle.ph_host.specs.Options.{if_shown, moment_in}
+use Rattle.ph_host.specs.Runs.{new_book}
+use Rattle.ph_host.specs.Setups.{given_in, opened_of, setup_of}
+
+shown : (o : Option ℕ) → unwrap_or (if_shown o) 1700000000 ≤ clock_limit
+shown None = omega arith
+shown (Some moment) = at (nat_le moment clock_limit) refl
+  where
+    at : (b : Bool) → nat_le moment clock_limit ≡ b → unwrap_or (cond b (Some moment) None) 1700000000 ≤ clock_limit
+    at true h = grind (arith, nat_tests)
+    at false h = omega arith
+
+opened_shown : (o : Option (List ℕ)) → unwrap_or (option_and_then moment_in o) 1700000000 ≤ clock_limit
+opened_shown None = omega arith
+opened_shown (Some text) = shown (number_in text)
+
+-- a book without entries is legal
+pub new_legal : (words : List (List ℕ)) → IsLegal (new_book words).setup (new_book words).history
+new_legal words = record { opened = opened_shown (given_in (codes "--clock") words); allowed = tt }

@@ -1,0 +1,46 @@
+-- The options of the command line, and the values that they take.
+use Rattle.std.specs.Prelude.{ℕ, Bool, true, false, ◌&&◌, ◌||◌, nat_le, bytes_eq, if◌then◌else◌, List, [], ◌∷◌, length, take, codes, Option, Some, None, is_some, is_none}
+use Rattle.std.specs.List.{list_all}
+use Rattle.ph_base.specs.Numbers.{number_in}
+use Rattle.ph_rows.specs.Sound.{clock_limit}
+
+-- a byte from `!` to `~`
+abbrev pub is_visible : ℕ → Bool
+is_visible b = nat_le 33 b && nat_le b 126
+
+-- an API key: 9 to 255 visible bytes, of which the first eight are `sk_test_`
+abbrev pub is_api_key : List ℕ → Bool
+is_api_key value =
+    nat_le 9 (length value) && nat_le (length value) 255 && bytes_eq (take 8 value) (codes "sk_test_")
+    && list_all is_visible value
+
+-- a moment, where a clock shows it
+abbrev pub if_shown : Option ℕ → Option ℕ
+if_shown None = None
+if_shown (Some moment) = if nat_le moment clock_limit then Some moment else None
+
+-- the moment that a text is, in decimal seconds since 1970
+abbrev pub moment_in : List ℕ → Option ℕ
+moment_in value = if_shown (number_in value)
+
+-- the option of this name takes the value
+unfoldable pub takes : List ℕ → List ℕ → Bool
+takes name value =
+    bytes_eq name (codes "--key") && is_api_key value
+    || bytes_eq name (codes "--clock") && is_some (moment_in value)
+
+-- the value that is given for the option of this name, where each option stands before its value
+abbrev pub given : List ℕ → List (List ℕ) → Option (List ℕ)
+given name [] = None
+given name (other ∷ []) = None
+given name (other ∷ value ∷ words) = if bytes_eq other name then Some value else given name words
+
+-- the option of this name takes the value, and isn't given again among the words behind it
+unfoldable pub is_option : List ℕ → List ℕ → List (List ℕ) → Bool
+is_option name value words = takes name value && is_none (given name words)
+
+-- the words are options, each before a value that it takes, and none is given twice
+abbrev pub are_options : List (List ℕ) → Bool
+are_options [] = true
+are_options (name ∷ []) = false
+are_options (name ∷ value ∷ words) = is_option name value words && are_options words
