@@ -1,1 +1,4 @@
+mod FollowLemmas
 mod IdLemmas
+pub mod KeepsLemmas
+mod TextLemmas

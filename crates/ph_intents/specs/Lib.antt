@@ -6,6 +6,7 @@ pub mod Capture
 pub mod Confirm
 pub mod Create
 pub mod Finding
+pub mod Keeps
 pub mod Laws
 pub mod Metadata
 pub mod Refusals

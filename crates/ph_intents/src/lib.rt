@@ -29,7 +29,7 @@ pub use canceling::cancel;
 pub use capturing::capture;
 pub use creation::create;
 pub use finding::intent_row;
-pub use laws::begun_is_asked;
+pub use laws::{begun_is_asked, calls_keep_sound, settle_keeps_sound};
 pub use settlement::settle;
 pub use statuses::{Step, next_status};
 pub use updating::update;
