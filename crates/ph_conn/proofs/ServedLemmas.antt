@@ -8,7 +8,7 @@ use Rattle.ph_http.specs.declared.message.Reply.{Reply}
 use Rattle.ph_http.specs.Items.{Item, Continue, Request, Close, Cut, End}
 use Rattle.ph_http.specs.Replies.{rendered}
 use Rattle.ph_conn.specs.Reads.{request_items}
-use Rattle.ph_conn.specs.Served.{Halt, Stopped, served, halt_of, replies_behind, line_behind, replies_text, next_line, output}
+use Rattle.ph_conn.specs.Served.{Stopped, served, halt_of, replies_behind, replies_text, next_line, output}
 use Rattle.ph_conn.specs.Texts.{continue_line, line_for, tail_text}
 use Rattle.ph_conn.specs.declared.endings.Stop.TheVariants as stop
 

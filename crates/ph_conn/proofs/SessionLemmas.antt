@@ -10,7 +10,7 @@ use Rattle.ph_io.specs.Writes.{Takes, TakesFront}
 use Rattle.ph_io.proofs.DeviceLemmas.{followed_twice, preceded_twice, moves_twice, moves_nothing, takes_nothing, takes_twice, takes_then_front, front_of_more}
 use Rattle.ph_http.specs.declared.message.Raw.{Raw}
 use Rattle.ph_http.specs.declared.message.Reply.{Reply}
-use Rattle.ph_http.specs.Items.{Item, Close, Cut, End, Wants, Has, first, items_from, items_of}
+use Rattle.ph_http.specs.Items.{Item, Close, Cut, End, Has, first, items_from, items_of}
 use Rattle.ph_http.specs.Replies.{rendered}
 use Rattle.ph_http.specs.Talk.{Leads}
 use Rattle.ph_http.specs.TalkState.{TalkState, talk_of, grown}
@@ -341,22 +341,24 @@ pub waits : {limit i : ℕ} {talk new : TalkState} {book0 book1 : BookState} {in
     → Serving limit i talk book0 book1 input0 input1 output0 output1 → Fetches talk new (fetched.Request raw continues) input1 input2 → Takes output1 output2 (line_for continues)
     → (n : ℕ) × Waiting limit i n new raw continues book0 book1 input0 input2 output0 output2
 waits {limit} {i} {talk} {new} raw continues below s fetches takes =
-    let some = some_left i s.left limit s.left_is below in
-    (some.0, record {
-      bytes = s.bytes ++ fetches.bytes;
-      given = s.given;
-      entered = s.entered;
-      replies = s.replies;
-      text = s.text;
-      moved = moves_twice s.moved fetches.read;
-      led = request_is raw continues below s fetches;
-      still = fetches.item.1;
-      grown_by = s.grown_by;
-      count = s.count;
-      left_is = ap (λ k. i + k) (sym some.1) ∙ s.left_is;
-      done = subst (Serves limit s.given s.entered s.replies s.text) some.1 s.done;
-      wrote = takes_twice s.wrote takes;
-    })
+    let some = some_left i s.left limit s.left_is below in (
+      some.0,
+      record {
+        bytes = s.bytes ++ fetches.bytes;
+        given = s.given;
+        entered = s.entered;
+        replies = s.replies;
+        text = s.text;
+        moved = moves_twice s.moved fetches.read;
+        led = request_is raw continues below s fetches;
+        still = fetches.item.1;
+        grown_by = s.grown_by;
+        count = s.count;
+        left_is = ap (λ k. i + k) (sym some.1) ∙ s.left_is;
+        done = subst (Serves limit s.given s.entered s.replies s.text) some.1 s.done;
+        wrote = takes_twice s.wrote takes;
+      },
+    )
 
 -- the line of the request isn't written whole
 pub line_fails : {limit i : ℕ} {talk new : TalkState} {book0 book1 : BookState} {input0 input1 input2 : SourceState} {output0 output1 output2 : SinkState} (raw : Raw) (continues : Bool) → i < limit

@@ -1,5 +1,5 @@
 -- The last words of a session: a head for each fixed error, with the length of its body.
-use Rattle.std.proofs.Common.{◌≡◌, ℕ, Bool, true, false, List, [], ◌++◌, length, codes, None, refl, sym, ap, ◌∙◌}
+use Rattle.std.proofs.Common.{◌≡◌, ℕ, Bool, true, false, List, ◌++◌, length, codes, None, refl, sym, ap, ◌∙◌}
 use Rattle.std.specs.Fmt.{digits}
 use Rattle.ph_http.specs.Replies.{rendered, status_lines, length_line, line_if, crlf}
 use Rattle.ph_errors.specs.declared.api_error.ApiError.{ApiError}

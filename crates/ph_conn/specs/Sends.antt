@@ -1,5 +1,5 @@
 -- What a session writes at one step.
-use Rattle.std.specs.Prelude.{◌≡◌, ⊤, ℕ, Bool, List, ◌⊎◌, Result, Ok, Err, IsTrue}
+use Rattle.std.specs.Prelude.{◌≡◌, ⊤, ℕ, Bool, ◌⊎◌, Result, Ok, Err, IsTrue}
 use Rattle.ph_io.specs.Told.{SinkState}
 use Rattle.ph_io.specs.Writes.{Takes, TakesFront}
 use Rattle.ph_http.specs.Replies.{is_status, rendered}

@@ -7,6 +7,8 @@ mod endings;
 mod reads;
 mod rules;
 mod sessions;
+#[cfg(test)]
+mod tests;
 mod texts;
 
 pub use endings::{Closed, Stop, TalkError};

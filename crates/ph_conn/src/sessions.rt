@@ -44,8 +44,7 @@ pub fn serve_solo<S: Source, K: Sink>(
             Fetched::End => return Ok(closed(i, Stop::End)),
             Fetched::Cut => return Err(TalkError::Cut),
             Fetched::ReadFault => return Err(TalkError::ReadFault),
-            Fetched::NoMemory =>
-                return Err(part(output, Fixed::NoMemory, TalkError::NoMemory)),
+            Fetched::NoMemory => return Err(part(output, Fixed::NoMemory, TalkError::NoMemory)),
         };
         match announce(output, continues) {
             Ok(()) => {}

@@ -1,5 +1,5 @@
 -- The opening moment is one that a clock shows.
-use Rattle.std.proofs.Common.{◌≡◌, ℕ, ◌≤◌, Bool, true, false, cond, nat_le, List, drop, codes, Option, Some, None, refl, arith}
+use Rattle.std.proofs.Common.{◌≡◌, ℕ, ◌≤◌, Bool, true, false, cond, nat_le, List, codes, Option, Some, None, refl, arith}
 use Rattle.std.specs.Option.{unwrap_or, option_and_then}
 use Rattle.std.proofs.lemmas.Bool.Decides.{nat_tests}
 use Rattle.ph_base.specs.Numbers.{number_in}
@@ -7,7 +7,7 @@ use Rattle.ph_rows.specs.Sound.{clock_limit}
 use Rattle.ph_book.specs.Legal.{IsLegal}
 use Rattle.ph_host.specs.Options.{if_shown, moment_in}
 use Rattle.ph_host.specs.Runs.{new_book}
-use Rattle.ph_host.specs.Setups.{given_in, opened_of, setup_of}
+use Rattle.ph_host.specs.Setups.{given_in}
 
 shown : (o : Option ℕ) → unwrap_or (if_shown o) 1700000000 ≤ clock_limit
 shown None = omega arith

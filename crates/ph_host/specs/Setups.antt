@@ -1,5 +1,5 @@
 -- The setup that the words of the command line name.
-use Rattle.std.specs.Prelude.{ℕ, List, drop, codes, Option, Some, None, unwrap_or, option_and_then}
+use Rattle.std.specs.Prelude.{ℕ, List, drop, codes, Option, unwrap_or, option_and_then}
 use Rattle.ph_book.specs.declared.setup.Setup.{Setup}
 use Rattle.ph_host.specs.Options.{given, moment_in}
 

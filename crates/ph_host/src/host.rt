@@ -25,7 +25,8 @@ pub fn plan(words: &[Bytes]) -> Plan
     ensures { result ≡ plan_of words.now }
 {
     match words {
-        [word, options @ ..] if word.as_slice() == b"stdio".as_slice() && are_options(options) => Plan::Once,
+        [word, options @ ..] if word.as_slice() == b"stdio".as_slice() && are_options(options) =>
+            Plan::Once,
         _ => Plan::Usage,
     }
 }
@@ -73,12 +74,7 @@ pub fn run_once<S: Source, K: Sink>(
 }
 
 // Serves one session over a new book of the words' setup.
-fn stdio<S: Source, K: Sink>(
-    alloc: Global,
-    words: &[Bytes],
-    input: &mut S,
-    output: &mut K,
-) -> u8
+fn stdio<S: Source, K: Sink>(alloc: Global, words: &[Bytes], input: &mut S, output: &mut K) -> u8
     ensures { Runs words.now result (S.source input.old) (S.source input.new) (K.sink output.old) (K.sink output.new) }
 {
     match book(alloc, words) {

@@ -5,6 +5,8 @@ mod host;
 mod options;
 mod plans;
 mod setups;
+#[cfg(test)]
+mod tests;
 
 pub use host::{plan, run_once};
 pub use plans::Plan;

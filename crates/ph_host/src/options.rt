@@ -15,8 +15,8 @@ pub fn are_options(words: &[Bytes]) -> bool
     match words {
         [] => true,
         [_] => false,
-        [name, value, behind @ ..] =>
-            is_option(name.as_slice(), value.as_slice(), behind) && are_options(behind),
+        [name, value, behind @ ..] => is_option(name.as_slice(), value.as_slice(), behind)
+            && are_options(behind),
     }
 }
 
