@@ -58,7 +58,7 @@ weight_more setup past h =
     let weigh : Happening → ℕ = λ (x : Happening). deed_weight x.entry.deed in
     let deeds : sum_by weigh (past ++ h ∷ []) ≡ sum_by weigh past + (0 + deed_weight h.entry.deed) = sum_by-append weigh past (h ∷ []) in
     let rows : rows_weight (rows_after setup (past ++ h ∷ [])) ≡ rows_weight (rows_after setup past) + rows_weight h.rows =
-        ap rows_weight (rows_more setup past h) ∙ rows_weight_append (rows_after setup past) h.rows in
+    ap rows_weight (rows_more setup past h) ∙ rows_weight_append (rows_after setup past) h.rows in
     omega arith
 
 -- the replies with one entry more: behind those before come those of its answer
@@ -118,7 +118,7 @@ book_more setup history rows time weight place entry b at allowed =
     let h : Happening = happens setup rows time place entry in
     let past : List Happening = past_of setup history in
     let grown : past_of setup (history ++ entry ∷ []) ≡ past ++ h ∷ [] =
-        past_more setup history entry ∙ ap (λ x. past ++ x ∷ []) (sym (happens_of_book setup history rows time weight place entry b at)) in
+    past_more setup history entry ∙ ap (λ x. past ++ x ∷ []) (sym (happens_of_book setup history rows time weight place entry b at)) in
     let rows_are : rows ≡ rows_after setup past = rows_are_read setup history rows time weight b in
     record {
       rows_are = sym (ap (rows_after setup) grown ∙ rows_more setup past h ∙ ap (λ x. x ++ h.rows) (sym rows_are));
@@ -142,7 +142,7 @@ unfolding is_full
 full_is book setup history rows time weight used deed test is b count tested =
     let same : used ≡ used_after (past_of setup history) = count ∙ sym (length_past setup history) in
     let here : is_full_at setup used weight deed ≡ is_full_after setup (past_of setup history) deed =
-        ap (λ (p : ℕ × ℕ). is_full_at setup p.0 p.1 deed) (λ i. (same i, b.weight_is i)) in
+    ap (λ (p : ℕ × ℕ). is_full_at setup p.0 p.1 deed) (λ i. (same i, b.weight_is i)) in
     subst (λ (x : BookState). is_full_after x.setup (past_of x.setup x.history) deed ≡ test) is (sym (tested ∙ here))
 
 -- where there is no room, Full is what is answered; where there is, it isn't
@@ -165,7 +165,7 @@ pub answer_is : (book : BookState) (setup : Setup) (history : List Entry) (rows 
 unfolding answer_to
 answer_is book setup history rows time weight place entry given is b at said =
     let here : given ≡ (happening_of setup (past_of setup history) entry).answer =
-        said ∙ ap (λ (h : Happening). h.answer) (happens_of_book setup history rows time weight place entry b at) in
+    said ∙ ap (λ (h : Happening). h.answer) (happens_of_book setup history rows time weight place entry b at) in
     subst (λ (x : BookState). given ≡ (happening_of x.setup (past_of x.setup x.history) entry).answer) is here
 
 -- a book without entries

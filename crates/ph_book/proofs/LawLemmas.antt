@@ -91,7 +91,7 @@ outcome_continues count (Adds object batch) small =
     let events : List Row = event_rows None batch.at batch.rows (last_place batch) batch.announced in
     let last : last_place batch ≡ count + length batch.rows = ap (λ n. n + length batch.rows) small.began in
     let behind : ArePlaced (count + length batch.rows) events =
-        subst (λ n. ArePlaced n events) last (events_placed None batch.at batch.rows (last_place batch) batch.announced) in
+    subst (λ n. ArePlaced n events) last (events_placed None batch.at batch.rows (last_place batch) batch.announced) in
     let number : length events ≡ length batch.announced = events_few None batch.at batch.rows (last_place batch) batch.announced in
     let all : length (batch.rows ++ events) ≡ length batch.rows + length events = length-append batch.rows events in
     let small_few = small.few in
@@ -152,7 +152,7 @@ counts_from setup past [] counts = subst (λ n. Counts n (rows_after setup past)
 counts_from setup past (entry ∷ entries) counts =
     let one : length (and_then setup past entry) ≡ length past + 1 = length-append past (happening_of setup past entry ∷ []) in
     let more : Counts (length (and_then setup past entry)) (rows_after setup (and_then setup past entry)) =
-        subst (λ n. Counts n (rows_after setup (and_then setup past entry))) (sym one) (counts_more setup past entry counts) in
+    subst (λ n. Counts n (rows_after setup (and_then setup past entry))) (sym one) (counts_more setup past entry counts) in
     subst (λ n. Counts n (rows_after setup (fold (and_then setup) (and_then setup past entry) entries))) (omega arith)
     (counts_from setup (and_then setup past entry) entries more)
 
@@ -171,9 +171,9 @@ printed_number : (kind : Kind) (number : ℕ) → number < 10 ^ 16 → number_of
 unfolding printed_id number_of_text
 printed_number kind number small =
     let n : length (prefix_of kind ++ padded 16 number) ≡ length (prefix_of kind) + 16 =
-        length-append (prefix_of kind) (padded 16 number) ∙ ap (λ k. length (prefix_of kind) + k) (length-padded 16 number) in
+    length-append (prefix_of kind) (padded 16 number) ∙ ap (λ k. length (prefix_of kind) + k) (length-padded 16 number) in
     let back : drop (length (prefix_of kind ++ padded 16 number) - 16) (prefix_of kind ++ padded 16 number) ≡ padded 16 number =
-        drop_at (prefix_of kind) (padded 16 number) (length (prefix_of kind ++ padded 16 number) - 16) (omega (arith, n)) in
+    drop_at (prefix_of kind) (padded 16 number) (length (prefix_of kind ++ padded 16 number) - 16) (omega (arith, n)) in
     ap decimal back ∙ decimal_padded 16 number small
 
 -- rows that are numbered by their positions, and few, have different ids where they are first versions
@@ -184,9 +184,9 @@ ids_of_placed rows placed few p q first second at_p at_q new_first new_second sa
     let within_first = row_at_within p rows first at_p in
     let within_second = row_at_within q rows second at_q in
     let number_first : number_of_text (id_of first) ≡ first.object =
-        printed_number (kind_of first.item) first.object (omega (arith, place_first, within_first.1, few)) in
+    printed_number (kind_of first.item) first.object (omega (arith, place_first, within_first.1, few)) in
     let number_second : number_of_text (id_of second) ≡ second.object =
-        printed_number (kind_of second.item) second.object (omega (arith, place_second, within_second.1, few)) in
+    printed_number (kind_of second.item) second.object (omega (arith, place_second, within_second.1, few)) in
     sym place_first ∙ sym number_first ∙ ap number_of_text same ∙ number_second ∙ place_second
 
 -- where a deed has room, the setup has more entries than are used
@@ -197,7 +197,7 @@ or_false false b e = refl
 room_left : (setup : Setup) (past : List Happening) (d : Deed) → is_full_after setup past d ≡ false → length past + 1 ≤ setup.entries
 room_left setup past (deed.Call raw) room =
     let few : nat_lt setup.entries (length past + 2) ≡ false =
-        or_false (nat_lt setup.entries (length past + 2)) (nat_lt setup.weight (weight_after setup past + raw_weight raw)) room in
+    or_false (nat_lt setup.entries (length past + 2)) (nat_lt setup.weight (weight_after setup past + raw_weight raw)) room in
     grind (arith, nat_tests)
 
 -- a legal history has no more entries than its setup

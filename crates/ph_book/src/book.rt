@@ -114,11 +114,16 @@ impl Book {
         if weights::is_full(&self.setup, used, self.weight, &raw) {
             return Err((raw, Refused::Full));
         }
-        let Called { reply, rows } =
-            match answer(self.alloc, &self.setup.key, &self.view, used + 1, &raw) {
-                Ok(called) => called,
-                Err(NoMemory) => return Err((raw, Refused::NoMemory)),
-            };
+        let Called { reply, rows } = match answer(
+            self.alloc,
+            &self.setup.key,
+            &self.view,
+            used + 1,
+            &raw,
+        ) {
+            Ok(called) => called,
+            Err(NoMemory) => return Err((raw, Refused::NoMemory)),
+        };
         let Some(weight) = weights::weight_with_call(self.weight, &raw, rows.as_slice()) else {
             return Err((raw, Refused::NoMemory));
         };

@@ -86,7 +86,14 @@ fn the_key_comes_first_and_then_the_account(rt: HostRuntime) -> Result<(), Fail>
     let request = presenting(alloc, b"", b"");
     is_answered(&rt, &mut book, request, "401", NO_KEY, "the empty key");
     let request = presenting(alloc, KEY, nobody);
-    is_answered(&rt, &mut book, request, "404", NO_ACCOUNT, "another account");
+    is_answered(
+        &rt,
+        &mut book,
+        request,
+        "404",
+        NO_ACCOUNT,
+        "another account",
+    );
     let request = presenting(alloc, KEY, b"pi_0000000000000001");
     is_answered(&rt, &mut book, request, "404", NO_ACCOUNT, "no account");
     let request = presenting(alloc, KEY, b"acct_0000000000000001");

@@ -20,7 +20,13 @@ fn has_room(rt: &impl Abort, book: &mut Book, raw: Result<Raw, NoMemory>) {
 }
 
 // The create is refused as Full, comes back, and leaves so many entries and rows.
-fn is_full(rt: &impl Abort, book: &mut Book, raw: Result<Raw, NoMemory>, entries: usize, rows: u64) {
+fn is_full(
+    rt: &impl Abort,
+    book: &mut Book,
+    raw: Result<Raw, NoMemory>,
+    entries: usize,
+    rows: u64,
+) {
     match raw {
         Ok(raw) => match book.apply(1, Act::Call(raw)) {
             Err((act, refused)) => {

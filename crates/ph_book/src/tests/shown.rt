@@ -42,7 +42,12 @@ pub fn raw(alloc: Global, method: &[u8], path: &[u8], body: &[u8]) -> Result<Raw
 
 /// The create of 2000 usd.
 pub fn create(alloc: Global) -> Result<Raw, NoMemory> {
-    raw(alloc, b"POST", b"/v1/payment_intents", b"amount=2000&currency=usd")
+    raw(
+        alloc,
+        b"POST",
+        b"/v1/payment_intents",
+        b"amount=2000&currency=usd",
+    )
 }
 
 /// The reply has this status, in digits, and this body.
@@ -74,11 +79,7 @@ pub fn is_answered(
 
 /// The form of a request, where `-` says that it has none.
 fn form(text: &str) -> &[u8] {
-    if text == "-" {
-        b""
-    } else {
-        text.as_bytes()
-    }
+    if text == "-" { b"" } else { text.as_bytes() }
 }
 
 /// The requests of a table get its replies, one after another.
