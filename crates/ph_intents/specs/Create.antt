@@ -1,7 +1,9 @@
--- The create: a payment intent that isn't confirmed yet.
-use Rattle.std.specs.Prelude.{ℕ, ◌+◌, List, Option, None, Some, unwrap_or}
+-- The create: a payment intent that isn't confirmed yet, or one that is confirmed at once.
+use Rattle.std.specs.Prelude.{ℕ, ◌+◌, List, Option, None, Some, unwrap_or, codes}
+use Rattle.ph_base.specs.declared.acquirer.Method.{Method}
 use Rattle.ph_calls.specs.declared.call.CreateIntent.{CreateIntent}
-use Rattle.ph_calls.specs.Outcomes.{Outcome, Adds}
+use Rattle.ph_calls.specs.Outcomes.{Outcome, Refuses, Adds}
+use Rattle.ph_errors.specs.Table.{error_of, ParameterMissing}
 use Rattle.ph_rows.specs.declared.rows.Row.{Row}
 use Rattle.ph_rows.specs.declared.intents.Intent.{Intent}
 use Rattle.ph_rows.specs.declared.intents.IntentStatus.{IntentStatus}
@@ -11,6 +13,7 @@ use Rattle.ph_rows.specs.declared.items.Item.TheVariants as item
 use Rattle.ph_rows.specs.declared.payment_methods.PaymentMethod.{PaymentMethod}
 use Rattle.ph_rows.specs.declared.event_kinds.EventKind.TheVariants as event
 use Rattle.ph_rows.specs.Batches.{BatchState, last_place, with_row, with_announced}
+use Rattle.ph_intents.specs.Attempts.{with_attempt}
 use Rattle.ph_intents.specs.Metadata.{first_metadata}
 
 -- where a payment intent begins: it waits for a payment method, or for its confirmation where it has one
@@ -44,3 +47,18 @@ abbrev pub create_outcome : List Row → ℕ → CreateIntent → BatchState →
 create_outcome rows account call batch =
     Adds (last_place batch + 1)
     (with_announced (with_intent account (new_intent call (first_status call.payment_method)) batch) event.IntentCreated (last_place batch + 1))
+
+-- a new payment intent, which is announced, and its attempt to be paid by a method
+abbrev pub created_with : ℕ → Intent → Method → BatchState → Outcome
+created_with account intent method batch =
+    Adds (last_place batch + 1)
+    (with_announced (with_attempt account (last_place batch + 1) intent method (with_intent account intent batch)) event.IntentCreated (last_place batch + 1))
+
+-- the create that is confirmed at once, with its payment method; without one it is refused as its request is
+abbrev pub create_by : ℕ → CreateIntent → BatchState → Option PaymentMethod → Outcome
+create_by account call batch None = Refuses (error_of (ParameterMissing (codes "payment_method")))
+create_by account call batch (Some method) = created_with account (new_intent call status.Processing) method.method batch
+
+-- the create that is confirmed at once
+abbrev pub create_confirmed_outcome : List Row → ℕ → CreateIntent → BatchState → Outcome
+create_confirmed_outcome rows account call batch = create_by account call batch call.payment_method

@@ -1,3 +1,15 @@
+pub mod Attempts
+pub mod Authenticate
+pub mod Begin
+pub mod Cancel
+pub mod Capture
+pub mod Confirm
 pub mod Create
 pub mod Finding
+pub mod Laws
 pub mod Metadata
+pub mod Refusals
+pub mod Settle
+pub mod Statuses
+pub mod Update
+pub mod Versions

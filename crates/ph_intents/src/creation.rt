@@ -1,11 +1,13 @@
-//! A new payment intent.
+//! The create.
 ghost use Rattle.std.specs.Prelude.{◌≡◌, IfOk};
 ghost use Rattle.ph_calls.specs.Outcomes.{Gives};
-ghost use Rattle.ph_intents.specs.Create.{create_outcome, new_intent};
+ghost use Rattle.ph_intents.specs.Create.{create_confirmed_outcome, create_outcome, created_with, new_intent};
 
+use crate::attempts::add_attempt;
 use crate::copies::{copy_method, copy_text};
 use crate::metadata::first_metadata;
-use ph_base::NoMemory;
+use crate::refusals::parameter_missing;
+use ph_base::{Method, NoMemory};
 use ph_calls::CreateIntent;
 use ph_errors::Refusal;
 use ph_money::Amount;
@@ -55,4 +57,40 @@ pub fn create<V: View>(
     let object = batch.add(account, Item::Intent(intent))?;
     batch.announce(EventKind::IntentCreated, object)?;
     Ok(object)
+}
+
+// A new payment intent, which is announced, and its attempt to be paid by a method.
+fn create_with(
+    account: u64,
+    intent: Intent,
+    method: Method,
+    batch: &mut Batch,
+) -> Result<u64, Refusal>
+    ensures { Gives (created_with account intent method batch.old) result batch.new }
+{
+    let amount = intent.amount;
+    let currency = intent.currency;
+    let object = batch.add(account, Item::Intent(intent))?;
+    add_attempt(account, object, amount, currency, method, batch)?;
+    batch.announce(EventKind::IntentCreated, object)?;
+    Ok(object)
+}
+
+/// Adds a payment intent that is confirmed at once. Its request is refused where it has no payment method, and so is it.
+pub fn create_confirmed<V: View>(
+    alloc: Global,
+    view: &V,
+    account: u64,
+    call: &CreateIntent,
+    batch: &mut Batch,
+) -> Result<u64, Refusal>
+    ensures { Gives (create_confirmed_outcome (V.state view.now).rows account call.now batch.old) result batch.new }
+{
+    match &call.payment_method {
+        Some(method) => {
+            let intent = new_intent(alloc, call, IntentStatus::Processing)?;
+            create_with(account, intent, method.method, batch)
+        }
+        None => Err(parameter_missing(alloc, b"payment_method")),
+    }
 }

@@ -1,10 +1,35 @@
 //! The operations on payment intents: what each accepted call, and each ruling of the acquirer, adds to the rows.
 #![tactic(auto)]
 
+mod attempts;
+mod authentication;
+mod beginning;
+mod begins;
+mod canceling;
+mod capturing;
+mod confirming;
 mod copies;
 mod creation;
 mod finding;
+mod laws;
 mod metadata;
+mod refusals;
+mod settlement;
+mod statuses;
+#[cfg(test)]
+mod tests;
+mod updating;
+mod versions;
 
+pub use attempts::begun;
+pub use authentication::fail_authentication;
+pub use beginning::begin;
+pub use begins::Begin;
+pub use canceling::cancel;
+pub use capturing::capture;
 pub use creation::create;
 pub use finding::intent_row;
+pub use laws::begun_is_asked;
+pub use settlement::settle;
+pub use statuses::{Step, next_status};
+pub use updating::update;

@@ -3,9 +3,13 @@ use Rattle.std.specs.Prelude.{ℕ, Bool, true, false, if◌then◌else◌, List,
 use Rattle.std.specs.Str.{str_eq_ignore_ascii_case}
 use Rattle.ph_money.specs.declared.currencies.Currency.{Currency}
 use Rattle.ph_money.specs.Currencies.{currency_of}
-use Rattle.ph_rows.specs.Words.{capture_method_text}
+use Rattle.ph_rows.specs.Words.{cancellation_reason_text, capture_method_text}
+use Rattle.ph_kinds.specs.declared.authentication.Authentication.{Authentication}
+use Rattle.ph_kinds.specs.declared.authentication.Authentication.TheVariants.{Succeeded, Failed}
 use Rattle.ph_kinds.specs.declared.flaw.Flaw.{Flaw}
 use Rattle.ph_kinds.specs.declared.flaw.Flaw.TheVariants.{InvalidValue}
+use Rattle.ph_rows.specs.declared.intents.CancellationReason.{CancellationReason}
+use Rattle.ph_rows.specs.declared.intents.CancellationReason.TheVariants.{Duplicate, Fraudulent, RequestedByCustomer, Abandoned}
 use Rattle.ph_rows.specs.declared.intents.CaptureMethod.{CaptureMethod}
 use Rattle.ph_rows.specs.declared.intents.CaptureMethod.TheVariants.{Automatic, AutomaticAsync, Manual}
 
@@ -26,3 +30,17 @@ capture_methods = Automatic ∷ AutomaticAsync ∷ Manual ∷ []
 -- a capture method: its word
 abbrev pub capture_method_in : List ℕ → Result CaptureMethod Flaw
 capture_method_in text = ok_or (find (λ method. bytes_eq text (capture_method_text method)) capture_methods) InvalidValue
+
+-- every reason for a cancel
+abbrev pub cancellation_reasons : List CancellationReason
+cancellation_reasons = Duplicate ∷ Fraudulent ∷ RequestedByCustomer ∷ Abandoned ∷ []
+
+-- a reason for a cancel: its word
+abbrev pub cancellation_reason_in : List ℕ → Result CancellationReason Flaw
+cancellation_reason_in text = ok_or (find (λ reason. bytes_eq text (cancellation_reason_text reason)) cancellation_reasons) InvalidValue
+
+-- what an authentication comes to: `succeeded` or `failed`
+unfoldable pub authentication_in : List ℕ → Result Authentication Flaw
+authentication_in text =
+    if bytes_eq text (codes "succeeded") then Ok Succeeded
+    else (if bytes_eq text (codes "failed") then Ok Failed else Err InvalidValue)

@@ -3,20 +3,23 @@ ghost use Rattle.std.specs.Prelude.{◌≡◌, IfOk};
 ghost use Rattle.ph_form.specs.Readers.{text_at};
 ghost use Rattle.ph_kinds.specs.Kinds.{address_in};
 ghost use Rattle.ph_kinds.specs.Numbers.{amount_in, whole_in};
-ghost use Rattle.ph_kinds.specs.Words.{capture_method_in, currency_in};
+ghost use Rattle.ph_kinds.specs.Words.{authentication_in, cancellation_reason_in, capture_method_in, currency_in};
 ghost use Rattle.ph_kinds.specs.Values.{events_at, metadata_at, payment_method_at, truth_at, value_at};
 
+use crate::authentication::Authentication;
 use crate::events::{are_events, texts_of};
 use crate::lists::Texts;
 use crate::metadata::{Meta, is_metadata, pairs_of};
 use crate::methods::read_method;
 use crate::numbers::{read_amount, read_whole};
-use crate::words::{read_capture_method, read_currency, read_truth};
+use crate::words::{
+    read_authentication, read_cancellation_reason, read_capture_method, read_currency, read_truth,
+};
 use ph_address::{Address, read_address};
 use ph_base::{Bytes, NoMemory};
 use ph_form::Form;
 use ph_money::{Amount, Currency};
-use ph_rows::{CaptureMethod, PaymentMethod};
+use ph_rows::{CancellationReason, CaptureMethod, PaymentMethod};
 use std::alloc::Global;
 
 /// The amount under a name.
@@ -55,6 +58,20 @@ pub fn capture_method_at(form: &Form, name: &[u8]) -> Option<CaptureMethod>
     ensures { result ≡ value_at capture_method_in name.now form.now }
 {
     read_capture_method(form.text(name)?).ok()
+}
+
+/// The reason for a cancel under a name.
+pub fn cancellation_reason_at(form: &Form, name: &[u8]) -> Option<CancellationReason>
+    ensures { result ≡ value_at cancellation_reason_in name.now form.now }
+{
+    read_cancellation_reason(form.text(name)?).ok()
+}
+
+/// What an authentication comes to, under a name.
+pub fn authentication_at(form: &Form, name: &[u8]) -> Option<Authentication>
+    ensures { result ≡ value_at authentication_in name.now form.now }
+{
+    read_authentication(form.text(name)?).ok()
 }
 
 /// The text under a name.

@@ -25,4 +25,8 @@ pub enum Kind {
     Address,
     /// `automatic`, `automatic_async` or `manual`.
     CaptureMethod,
+    /// `duplicate`, `fraudulent`, `requested_by_customer` or `abandoned`.
+    CancellationReason,
+    /// `succeeded` or `failed`.
+    Authentication,
 }

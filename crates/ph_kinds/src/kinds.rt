@@ -11,7 +11,9 @@ use crate::kind::Kind;
 use crate::metadata::is_metadata;
 use crate::methods::read_method;
 use crate::numbers::{read_amount, read_whole};
-use crate::words::{read_capture_method, read_currency, read_truth};
+use crate::words::{
+    read_authentication, read_cancellation_reason, read_capture_method, read_currency, read_truth,
+};
 use ph_address::read_address;
 use ph_base::NoMemory;
 use ph_form::Leaf;
@@ -45,6 +47,8 @@ pub fn text_flaw(alloc: Global, kind: Kind, text: &[u8]) -> Result<Option<Flaw>,
         Kind::Events => Some(Flaw::InvalidValue),
         Kind::Address => unless(read_address(alloc, text)?.is_some()),
         Kind::CaptureMethod => read_capture_method(text).err(),
+        Kind::CancellationReason => read_cancellation_reason(text).err(),
+        Kind::Authentication => read_authentication(text).err(),
     };
     Ok(flaw)
 }
@@ -71,6 +75,8 @@ pub fn map_flaw(kind: Kind, entries: Option<&[Leaf]>) -> Option<Flaw>
         | Kind::Id
         | Kind::Method
         | Kind::Address
-        | Kind::CaptureMethod => Some(Flaw::InvalidValue),
+        | Kind::CaptureMethod
+        | Kind::CancellationReason
+        | Kind::Authentication => Some(Flaw::InvalidValue),
     }
 }

@@ -1,6 +1,7 @@
 //! The kinds of parameters: what each takes from a form, and how it refuses anything else.
 #![tactic(auto)]
 
+mod authentication;
 mod characters;
 mod events;
 mod flaw;
@@ -15,11 +16,12 @@ mod numbers;
 mod tests;
 mod words;
 
+pub use authentication::Authentication;
 pub use characters::character_count;
 pub use flaw::Flaw;
 pub use form_values::{
-    address_at, amount_at, capture_method_at, currency_at, events_at, metadata_at, number_at,
-    payment_method_at, text_at, truth_at,
+    address_at, amount_at, authentication_at, cancellation_reason_at, capture_method_at,
+    currency_at, events_at, metadata_at, number_at, payment_method_at, text_at, truth_at,
 };
 pub use kind::Kind;
 pub use kinds::{map_flaw, text_flaw};
@@ -27,4 +29,6 @@ pub use lists::{Pairs, Texts};
 pub use metadata::Meta;
 pub use methods::read_method;
 pub use numbers::{read_amount, read_whole};
-pub use words::{read_capture_method, read_currency, read_truth};
+pub use words::{
+    read_authentication, read_cancellation_reason, read_capture_method, read_currency, read_truth,
+};

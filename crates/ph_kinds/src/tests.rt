@@ -3,7 +3,7 @@
 use crate::*;
 use ph_base::{Method, NoMemory};
 use ph_form::{Form, FormFault, read_form};
-use ph_rows::CaptureMethod;
+use ph_rows::{CancellationReason, CaptureMethod};
 use std::alloc::Global;
 use std::process::Abort;
 use std::test::Fail;
@@ -21,7 +21,7 @@ fn has_flaw(rt: &impl Abort, alloc: Global, kind: Kind, text: &[u8], want: Optio
 
 #[test]
 fn texts_that_kinds_take(rt: HostRuntime) -> Result<(), Fail> {
-    let rows: [(Kind, &[u8]); 25] = [
+    let rows: [(Kind, &[u8]); 31] = [
         (Kind::Amount, b"0"),
         (Kind::Amount, b"99999999"),
         (Kind::Amount, b"0000000000099999999"),
@@ -47,6 +47,12 @@ fn texts_that_kinds_take(rt: HostRuntime) -> Result<(), Fail> {
         (Kind::CaptureMethod, b"automatic"),
         (Kind::CaptureMethod, b"automatic_async"),
         (Kind::CaptureMethod, b"manual"),
+        (Kind::CancellationReason, b"duplicate"),
+        (Kind::CancellationReason, b"fraudulent"),
+        (Kind::CancellationReason, b"requested_by_customer"),
+        (Kind::CancellationReason, b"abandoned"),
+        (Kind::Authentication, b"succeeded"),
+        (Kind::Authentication, b"failed"),
     ];
     for (kind, text) in rows {
         has_flaw(&rt, rt.alloc(), kind, text, None);
@@ -56,7 +62,7 @@ fn texts_that_kinds_take(rt: HostRuntime) -> Result<(), Fail> {
 
 #[test]
 fn texts_that_kinds_refuse(rt: HostRuntime) -> Result<(), Fail> {
-    let rows: [(Kind, &[u8], Flaw); 31] = [
+    let rows: [(Kind, &[u8], Flaw); 38] = [
         (Kind::Amount, b"", Flaw::InvalidInteger),
         (Kind::Amount, b"-1", Flaw::InvalidInteger),
         (Kind::Amount, b"+1", Flaw::InvalidInteger),
@@ -100,6 +106,13 @@ fn texts_that_kinds_refuse(rt: HostRuntime) -> Result<(), Fail> {
         (Kind::Address, b"http://user@h/", Flaw::InvalidValue),
         (Kind::Address, b"http://h:0/", Flaw::InvalidValue),
         (Kind::CaptureMethod, b"MANUAL", Flaw::InvalidValue),
+        (Kind::CancellationReason, b"", Flaw::InvalidValue),
+        (Kind::CancellationReason, b"Duplicate", Flaw::InvalidValue),
+        (Kind::CancellationReason, b"automatic", Flaw::InvalidValue),
+        (Kind::Authentication, b"", Flaw::InvalidValue),
+        (Kind::Authentication, b"Succeeded", Flaw::InvalidValue),
+        (Kind::Authentication, b"failed ", Flaw::InvalidValue),
+        (Kind::Authentication, b"canceled", Flaw::InvalidValue),
     ];
     for (kind, text, flaw) in rows {
         has_flaw(&rt, rt.alloc(), kind, text, Some(flaw));
@@ -121,6 +134,8 @@ fn maps_that_kinds_refuse(rt: HostRuntime) -> Result<(), Fail> {
         (Kind::Events, Flaw::InvalidValue),
         (Kind::Address, Flaw::InvalidValue),
         (Kind::CaptureMethod, Flaw::InvalidValue),
+        (Kind::CancellationReason, Flaw::InvalidValue),
+        (Kind::Authentication, Flaw::InvalidValue),
     ];
     for (kind, flaw) in rows {
         assert_eq!(rt; map_flaw(kind, None), Some(flaw), "{kind:?}");
@@ -162,6 +177,16 @@ fn values(rt: &impl Abort, alloc: Global, form: &Form) -> Result<(), NoMemory> {
         capture_method_at(form, b"capture_method"),
         Some(CaptureMethod::Manual)
     );
+    assert_eq!(rt;
+        cancellation_reason_at(form, b"reason"),
+        Some(CancellationReason::Abandoned)
+    );
+    assert_eq!(rt; cancellation_reason_at(form, b"capture_method"), None);
+    assert_eq!(rt;
+        authentication_at(form, b"outcome"),
+        Some(Authentication::Succeeded)
+    );
+    assert_eq!(rt; authentication_at(form, b"reason"), None);
     match address_at(alloc, form, b"url")? {
         Some(url) => assert_eq!(rt; url.port, 4242),
         None => assert!(rt; false),
@@ -197,7 +222,7 @@ fn values(rt: &impl Abort, alloc: Global, form: &Form) -> Result<(), NoMemory> {
 #[test]
 fn values_of_a_form(rt: HostRuntime) -> Result<(), Fail> {
     let body =
-        b"now=1700000000&connect=True&capture_method=manual&url=http://h:4242/&enabled_events[1]=*&enabled_events[0]=charge.failed&other_events[]=nothing&metadata[a]=1&payment_method=pm_payhost_slow_3&id=pi_1";
+        b"now=1700000000&connect=True&capture_method=manual&reason=abandoned&outcome=succeeded&url=http://h:4242/&enabled_events[1]=*&enabled_events[0]=charge.failed&other_events[]=nothing&metadata[a]=1&payment_method=pm_payhost_slow_3&id=pi_1";
     match read_form(rt.alloc(), b"", body) {
         Ok(form) => match values(&rt, rt.alloc(), &form) {
             Ok(()) => {}

@@ -1,15 +1,23 @@
 //! Words that parameters take.
 ghost use Rattle.std.specs.Prelude.{◌≡◌};
-ghost use Rattle.ph_kinds.specs.Words.{capture_method_in, currency_in, truth_in};
+ghost use Rattle.ph_kinds.specs.Words.{authentication_in, cancellation_reason_in, capture_method_in, currency_in, truth_in};
 
+use crate::authentication::Authentication;
 use crate::flaw::Flaw;
 use ph_money::Currency;
-use ph_rows::CaptureMethod;
+use ph_rows::{CancellationReason, CaptureMethod};
 
 const CAPTURE_METHODS: [CaptureMethod; 3] = [
     CaptureMethod::Automatic,
     CaptureMethod::AutomaticAsync,
     CaptureMethod::Manual,
+];
+
+const CANCELLATION_REASONS: [CancellationReason; 4] = [
+    CancellationReason::Duplicate,
+    CancellationReason::Fraudulent,
+    CancellationReason::RequestedByCustomer,
+    CancellationReason::Abandoned,
 ];
 
 /// The currency whose code a text is, ASCII case ignored.
@@ -41,4 +49,29 @@ pub fn read_capture_method(text: &[u8]) -> Result<CaptureMethod, Flaw>
         .copied()
         .find(|method| text == method.text())
         .ok_or(Flaw::InvalidValue)
+}
+
+/// The reason for a cancel whose word a text is.
+pub fn read_cancellation_reason(text: &[u8]) -> Result<CancellationReason, Flaw>
+    ensures { result ≡ cancellation_reason_in text.now }
+{
+    CANCELLATION_REASONS
+        .iter()
+        .copied()
+        .find(|reason| text == reason.text())
+        .ok_or(Flaw::InvalidValue)
+}
+
+/// What an authentication comes to, by the word that a text is.
+#[tactic(auto, unfolding(crate::specs::Words::authentication_in))]
+pub fn read_authentication(text: &[u8]) -> Result<Authentication, Flaw>
+    ensures { result ≡ authentication_in text.now }
+{
+    if text == b"succeeded".as_slice() {
+        Ok(Authentication::Succeeded)
+    } else if text == b"failed".as_slice() {
+        Ok(Authentication::Failed)
+    } else {
+        Err(Flaw::InvalidValue)
+    }
 }

@@ -1,0 +1,38 @@
+-- The capture.
+use Rattle.std.specs.Prelude.{ℕ, ◌==◌, ◌||◌, nat_lt, if◌then◌else◌, List, Option, unwrap_or, codes}
+use Rattle.ph_calls.specs.declared.call.CaptureIntent.{CaptureIntent}
+use Rattle.ph_calls.specs.Outcomes.{Outcome}
+use Rattle.ph_rows.specs.declared.rows.Row.{Row}
+use Rattle.ph_rows.specs.declared.intents.Intent.{Intent}
+use Rattle.ph_rows.specs.declared.intents.IntentStatus.{IntentStatus}
+use Rattle.ph_rows.specs.declared.event_kinds.EventKind.TheVariants as event
+use Rattle.ph_rows.specs.Batches.{BatchState}
+use Rattle.ph_intents.specs.declared.statuses.Step.TheVariants as step
+use Rattle.ph_intents.specs.Refusals.{made_at, if_allowed, invalid_value}
+use Rattle.ph_intents.specs.Statuses.{next_status}
+use Rattle.ph_intents.specs.Versions.{adds_told}
+
+-- a payment intent of which so much is received; the rest can't be captured any more
+abbrev pub received_intent : ℕ → Intent → IntentStatus → Intent
+received_intent amount intent status = record intent {
+  status = status;
+  amount_capturable = 0;
+  amount_received = amount;
+}
+
+-- the capture of an amount: above 0, and no more than can be captured
+abbrev pub capture_amount : ℕ → ℕ → BatchState → ℕ → Intent → IntentStatus → Outcome
+capture_amount account amount batch object intent status =
+    if amount == 0 || nat_lt intent.amount_capturable amount then invalid_value (codes "amount_to_capture")
+    else adds_told account object (received_intent amount intent status) event.IntentSucceeded batch
+
+-- the capture of a payment intent, where its status allows it: of the amount named, or of all that can be captured
+abbrev pub capture_of : ℕ → Option ℕ → BatchState → ℕ → Intent → Outcome
+capture_of account amount batch object intent =
+    if_allowed (λ status. capture_amount account (unwrap_or amount intent.amount_capturable) batch object intent status)
+    (next_status intent.status step.Capture)
+
+-- the capture of the payment intent that the path names
+abbrev pub capture_outcome : List Row → ℕ → CaptureIntent → BatchState → Outcome
+capture_outcome rows account call batch =
+    made_at (λ object intent. capture_of account call.amount_to_capture batch object intent) rows account call.id

@@ -1,0 +1,99 @@
+-- What a ruling of the acquirer makes of an attempt and its payment intent.
+use Rattle.std.specs.Prelude.{ℕ, List, Option, None, Some}
+use Rattle.ph_base.specs.declared.acquirer.Ruling.{Ruling}
+use Rattle.ph_base.specs.declared.acquirer.Ruling.TheVariants as ruling
+use Rattle.ph_calls.specs.Outcomes.{Outcome, Adds}
+use Rattle.ph_rows.specs.declared.rows.Row.{Row}
+use Rattle.ph_rows.specs.declared.attempts.Attempt.{Attempt}
+use Rattle.ph_rows.specs.declared.attempts.AttemptState.{AttemptState}
+use Rattle.ph_rows.specs.declared.attempts.AttemptState.TheVariants as state
+use Rattle.ph_rows.specs.declared.intents.Intent.{Intent}
+use Rattle.ph_rows.specs.declared.intents.IntentStatus.TheVariants as status
+use Rattle.ph_rows.specs.declared.intents.CaptureMethod.{CaptureMethod}
+use Rattle.ph_rows.specs.declared.intents.CaptureMethod.TheVariants as capture_method
+use Rattle.ph_rows.specs.declared.intents.PaymentError.TheVariants as payment_error
+use Rattle.ph_rows.specs.declared.items.Item.TheVariants as item
+use Rattle.ph_rows.specs.declared.event_kinds.EventKind.{EventKind}
+use Rattle.ph_rows.specs.declared.event_kinds.EventKind.TheVariants as event
+use Rattle.ph_rows.specs.Batches.{BatchState, with_row}
+use Rattle.ph_rows.specs.Rows.{latest_of}
+use Rattle.ph_intents.specs.Attempts.{attempt_in}
+use Rattle.ph_intents.specs.Authenticate.{failed_intent}
+use Rattle.ph_intents.specs.Capture.{received_intent}
+use Rattle.ph_intents.specs.Refusals.{intent_in}
+use Rattle.ph_intents.specs.Versions.{adds_told}
+
+-- where a ruling leaves its attempt
+abbrev pub settled_state : Ruling → AttemptState
+settled_state ruling.Approved = state.Approved
+settled_state (ruling.Declined decline) = state.Declined
+settled_state ruling.Challenge = state.Challenged
+
+-- an attempt after a ruling
+abbrev pub settled_attempt : Ruling → Attempt → Attempt
+settled_attempt ruling attempt = record attempt { state = settled_state ruling }
+
+-- a payment intent that is approved to be captured later: all of it can be captured
+abbrev pub held_intent : Intent → Intent
+held_intent intent = record intent { status = status.RequiresCapture; amount_capturable = intent.amount }
+
+-- a payment intent that is approved: captured at once, or held
+abbrev pub approved_intent : CaptureMethod → Intent → Intent
+approved_intent capture_method.Automatic intent = received_intent intent.amount intent status.Succeeded
+approved_intent capture_method.AutomaticAsync intent = received_intent intent.amount intent status.Succeeded
+approved_intent capture_method.Manual intent = held_intent intent
+
+-- a payment intent after a ruling on its attempt
+abbrev pub settled_intent : Ruling → Intent → Intent
+settled_intent ruling.Approved intent = approved_intent intent.capture_method intent
+settled_intent (ruling.Declined decline) intent = failed_intent (payment_error.Declined decline) intent status.RequiresPaymentMethod
+settled_intent ruling.Challenge intent = record intent { status = status.RequiresAction }
+
+-- what tells of an approval
+abbrev pub approved_event : CaptureMethod → EventKind
+approved_event capture_method.Automatic = event.IntentSucceeded
+approved_event capture_method.AutomaticAsync = event.IntentSucceeded
+approved_event capture_method.Manual = event.IntentAmountCapturableUpdated
+
+-- what tells of a ruling
+abbrev pub settled_event : Ruling → CaptureMethod → EventKind
+settled_event ruling.Approved capture = approved_event capture
+settled_event (ruling.Declined decline) capture = event.IntentPaymentFailed
+settled_event ruling.Challenge capture = event.IntentRequiresAction
+
+-- nothing to be settled is there
+abbrev pub nothing : BatchState → Outcome
+nothing batch = Adds 0 batch
+
+-- the batch with the version of an attempt after a ruling, under the account that the attempt has
+abbrev pub with_settled : Ruling → Row → Attempt → BatchState → BatchState
+with_settled ruling row attempt batch =
+    with_row batch row.object row.account (item.Attempt (settled_attempt ruling attempt))
+
+-- a version of the attempt in a row, and one of the payment intent in a row, which an event tells
+abbrev pub settle_both : Ruling → Row → Attempt → Row → BatchState → Option Intent → Outcome
+settle_both ruling row attempt intent_row batch None = nothing batch
+settle_both ruling row attempt intent_row batch (Some intent) =
+    adds_told intent_row.account intent_row.object (settled_intent ruling intent) (settled_event ruling intent.capture_method)
+    (with_settled ruling row attempt batch)
+
+-- a ruling on the attempt in a row, whose payment intent is in a row, where there is one
+abbrev pub settle_intent : Ruling → Row → Attempt → BatchState → Option Row → Outcome
+settle_intent ruling row attempt batch None = nothing batch
+settle_intent ruling row attempt batch (Some intent_row) =
+    settle_both ruling row attempt intent_row batch (intent_in intent_row.item)
+
+-- a ruling on the attempt in a row, where there is one
+abbrev pub settle_attempt : List Row → Ruling → Row → BatchState → Option Attempt → Outcome
+settle_attempt rows ruling row batch None = nothing batch
+settle_attempt rows ruling row batch (Some attempt) =
+    settle_intent ruling row attempt batch (latest_of attempt.intent rows)
+
+-- a ruling on what the row says, where there is one
+abbrev pub settle_row : List Row → Ruling → BatchState → Option Row → Outcome
+settle_row rows ruling batch None = nothing batch
+settle_row rows ruling batch (Some row) = settle_attempt rows ruling row batch (attempt_in row.item)
+
+-- a ruling on the attempt of a number: the last versions of it and of its payment intent are followed by one each
+abbrev pub settle_outcome : List Row → ℕ → Ruling → BatchState → Outcome
+settle_outcome rows attempt ruling batch = settle_row rows ruling batch (latest_of attempt rows)

@@ -1,0 +1,100 @@
+//! The capture.
+ghost use Rattle.std.specs.Prelude.{◌≡◌, ◌==◌, ◌||◌, nat_lt, IfOk};
+ghost use Rattle.ph_calls.specs.Outcomes.{Gives};
+ghost use Rattle.ph_intents.specs.Capture.{capture_amount, capture_of, capture_outcome, received_intent};
+
+use crate::finding::intent_row;
+use crate::refusals::{intent_in, invalid_value, no_such_intent, unexpected_state};
+use crate::statuses::{Step, next_status};
+use crate::versions::tell_version;
+use ph_base::NoMemory;
+use ph_calls::CaptureIntent;
+use ph_errors::Refusal;
+use ph_money::Amount;
+use ph_rows::{Batch, EventKind, Intent, IntentStatus, View};
+use std::alloc::Global;
+
+/// A payment intent of which so much is received; the rest can't be captured any more.
+pub fn received_intent(
+    alloc: Global,
+    amount: Amount,
+    intent: &Intent,
+    status: IntentStatus,
+) -> Result<Intent, NoMemory>
+    ensures { IfOk result (λ received. received ≡ received_intent amount intent.now status) }
+{
+    let mut received = intent.copy(alloc)?;
+    received.status = status;
+    received.amount_capturable = Amount::new(0);
+    received.amount_received = amount;
+    Ok(received)
+}
+
+// Whether an amount can't be captured: nothing, or more than can be.
+fn is_out_of_bounds(amount: Amount, capturable: Amount) -> bool
+    ensures { result ≡ ((amount == 0) || nat_lt capturable amount) }
+{
+    amount.units() == 0 || amount.units() > capturable.units()
+}
+
+// The capture of an amount.
+fn capture_amount(
+    alloc: Global,
+    account: u64,
+    amount: Amount,
+    object: u64,
+    intent: &Intent,
+    status: IntentStatus,
+    batch: &mut Batch,
+) -> Result<u64, Refusal>
+    ensures { Gives (capture_amount account amount batch.old object intent.now status) result batch.new }
+{
+    if is_out_of_bounds(amount, intent.amount_capturable) {
+        return Err(invalid_value(alloc, b"amount_to_capture"));
+    }
+    let received = received_intent(alloc, amount, intent, status)?;
+    tell_version(account, object, received, EventKind::IntentSucceeded, batch)?;
+    Ok(object)
+}
+
+// The capture of a payment intent, where its status allows it.
+fn capture_intent(
+    alloc: Global,
+    account: u64,
+    amount: Option<Amount>,
+    object: u64,
+    intent: &Intent,
+    batch: &mut Batch,
+) -> Result<u64, Refusal>
+    ensures { Gives (capture_of account amount batch.old object intent.now) result batch.new }
+{
+    match next_status(intent.status, Step::Capture) {
+        Some(status) => {
+            let amount = amount.unwrap_or(intent.amount_capturable);
+            capture_amount(alloc, account, amount, object, intent, status, batch)
+        }
+        None => Err(unexpected_state(alloc)),
+    }
+}
+
+/// Captures the amount that the call names of the payment intent that the path names, or all that can be captured;
+/// what is left can't be captured any more. It is refused where the account has no such payment intent, where its
+/// status doesn't allow it, and for an amount of 0 or of more than can be captured. The answer is its number.
+pub fn capture<V: View>(
+    alloc: Global,
+    view: &V,
+    account: u64,
+    call: &CaptureIntent,
+    batch: &mut Batch,
+) -> Result<u64, Refusal>
+    ensures { Gives (capture_outcome (V.state view.now).rows account call.now batch.old) result batch.new }
+{
+    let Some(row) = intent_row(view, account, call.id.as_slice()) else {
+        return Err(no_such_intent(alloc));
+    };
+    let Some(intent) = intent_in(&row.item) else {
+        return Err(no_such_intent(alloc));
+    };
+    let amount = call.amount_to_capture;
+    capture_intent(alloc, account, amount, row.object, intent, batch)
+}

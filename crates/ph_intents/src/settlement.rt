@@ -1,0 +1,138 @@
+//! What a ruling of the acquirer makes of an attempt and its payment intent.
+ghost use Rattle.std.specs.Prelude.{◌≡◌, IfOk, OnOk};
+ghost use Rattle.ph_calls.specs.Outcomes.{Adds};
+ghost use Rattle.ph_intents.specs.Settle.{approved_event, approved_intent, held_intent, settle_both, settle_outcome, settled_attempt, settled_event, settled_intent, settled_state, with_settled};
+
+use crate::attempts::attempt_in;
+use crate::authentication::failed_intent;
+use crate::capturing::received_intent;
+use crate::refusals::intent_in;
+use crate::versions::tell_version;
+use ph_base::{NoMemory, Ruling};
+use ph_rows::{
+    Attempt, AttemptState, Batch, CaptureMethod, EventKind, Intent, IntentStatus, Item,
+    PaymentError, View,
+};
+use std::alloc::Global;
+
+// Where a ruling leaves its attempt.
+fn settled_state(ruling: Ruling) -> AttemptState
+    ensures { result ≡ settled_state ruling }
+{
+    match ruling {
+        Ruling::Approved => AttemptState::Approved,
+        Ruling::Declined(_) => AttemptState::Declined,
+        Ruling::Challenge => AttemptState::Challenged,
+    }
+}
+
+// A payment intent that is approved to be captured later: all of it can be captured.
+fn held_intent(alloc: Global, intent: &Intent) -> Result<Intent, NoMemory>
+    ensures { IfOk result (λ held. held ≡ held_intent intent.now) }
+{
+    let mut held = intent.copy(alloc)?;
+    held.status = IntentStatus::RequiresCapture;
+    held.amount_capturable = intent.amount;
+    Ok(held)
+}
+
+// A payment intent that is approved: captured at once, or held.
+fn approved_intent(alloc: Global, intent: &Intent) -> Result<Intent, NoMemory>
+    ensures { IfOk result (λ approved. approved ≡ approved_intent intent.now.capture_method intent.now) }
+{
+    match intent.capture_method {
+        CaptureMethod::Automatic | CaptureMethod::AutomaticAsync => {
+            received_intent(alloc, intent.amount, intent, IntentStatus::Succeeded)
+        }
+        CaptureMethod::Manual => held_intent(alloc, intent),
+    }
+}
+
+// A payment intent whose customer has to authenticate.
+fn challenged_intent(alloc: Global, intent: &Intent) -> Result<Intent, NoMemory>
+    ensures { IfOk result (λ challenged. challenged ≡ settled_intent Ruling.Challenge intent.now) }
+{
+    let mut challenged = intent.copy(alloc)?;
+    challenged.status = IntentStatus::RequiresAction;
+    Ok(challenged)
+}
+
+// A payment intent after a ruling on its attempt.
+fn settled_intent(alloc: Global, ruling: Ruling, intent: &Intent) -> Result<Intent, NoMemory>
+    ensures { IfOk result (λ settled. settled ≡ settled_intent ruling intent.now) }
+{
+    match ruling {
+        Ruling::Approved => approved_intent(alloc, intent),
+        Ruling::Declined(decline) => {
+            let error = PaymentError::Declined(decline);
+            failed_intent(alloc, error, intent, IntentStatus::RequiresPaymentMethod)
+        }
+        Ruling::Challenge => challenged_intent(alloc, intent),
+    }
+}
+
+// What tells of an approval.
+fn approved_event(capture: CaptureMethod) -> EventKind
+    ensures { result ≡ approved_event capture }
+{
+    match capture {
+        CaptureMethod::Automatic | CaptureMethod::AutomaticAsync => EventKind::IntentSucceeded,
+        CaptureMethod::Manual => EventKind::IntentAmountCapturableUpdated,
+    }
+}
+
+// What tells of a ruling.
+fn settled_event(ruling: Ruling, capture: CaptureMethod) -> EventKind
+    ensures { result ≡ settled_event ruling capture }
+{
+    match ruling {
+        Ruling::Approved => approved_event(capture),
+        Ruling::Declined(_) => EventKind::IntentPaymentFailed,
+        Ruling::Challenge => EventKind::IntentRequiresAction,
+    }
+}
+
+// An attempt after a ruling.
+fn settled_attempt(ruling: Ruling, attempt: Attempt) -> Attempt
+    ensures { result ≡ settled_attempt ruling attempt }
+{
+    Attempt {
+        intent: attempt.intent,
+        order: attempt.order,
+        state: settled_state(ruling),
+        opener: attempt.opener,
+    }
+}
+
+/// Adds what a ruling makes of an attempt and of its payment intent, and announces it: approved, the payment intent
+/// is captured at once or waits for its capture; declined, it waits for another payment method and tells why;
+/// challenged, it waits for its customer. The answer is the payment intent's number; where there is no such attempt
+/// or payment intent it is 0, and nothing is added.
+pub fn settle<V: View>(
+    alloc: Global,
+    view: &V,
+    attempt: u64,
+    ruling: Ruling,
+    batch: &mut Batch,
+) -> Result<u64, NoMemory>
+    ensures { IfOk result (λ object. settle_outcome (V.state view.now).rows attempt ruling batch.old ≡ Adds object batch.new) }
+{
+    let Some(row) = view.latest(attempt) else {
+        return Ok(0);
+    };
+    let Some(attempt) = attempt_in(&row.item) else {
+        return Ok(0);
+    };
+    let Some(intent_row) = view.latest(attempt.intent) else {
+        return Ok(0);
+    };
+    let Some(intent) = intent_in(&intent_row.item) else {
+        return Ok(0);
+    };
+    let settled = Item::Attempt(settled_attempt(ruling, attempt));
+    batch.change(row.object, row.account, settled)?;
+    let version = settled_intent(alloc, ruling, intent)?;
+    let sort = settled_event(ruling, intent.capture_method);
+    tell_version(intent_row.account, intent_row.object, version, sort, batch)?;
+    Ok(intent_row.object)
+}
