@@ -1,7 +1,7 @@
 -- What entries come to: replies with their statuses, few rows, and steps that attempts may make.
 use Rattle.std.proofs.Common.{◌≡◌, ◌≢◌, ℕ, suc, ◌+◌, ◌*◌, ◌^◌, ◌≤◌, ◌<◌, ◌∷◌, ◌++◌, ◌==◌, ◌&&◌, Bool, true, false, not, List, [], length, Option, Some, None, refl, sym, ap, ◌∙◌, subst, length-append, arith, IsTrue, codes}
 use Rattle.std.specs.List.{fold}
-use Rattle.std.proofs.lemmas.Bool.Decides.{nat_tests}
+use Rattle.std.proofs.lemmas.Bool.{false≢true}
 use Rattle.ph_base.specs.declared.acquirer.Decline.{Decline}
 use Rattle.ph_base.specs.declared.acquirer.Ruling.{Ruling}
 use Rattle.ph_base.specs.declared.acquirer.Ruling.TheVariants as ruling
@@ -257,7 +257,9 @@ served_status status served = left (is_status status) (not (status == 500)) serv
     left false b e = e
 
 served_no_park : (status : ℕ) → is_served status ≡ true → status ≢ 500
-served_no_park status served = ?
+served_no_park status served is =
+    let five : is_served 500 ≡ true = subst (λ n. is_served n ≡ true) is served in
+    false≢true five
 
 -- the answer that says it
 pub says_served : (place caller : ℕ) (said : Said) (given : Answer) → IfServed said → Says place caller said given → HasStatus given × IsNoPark given
@@ -268,6 +270,15 @@ says_served place caller (Replies reply) (answer.Wait ticket) served says = absu
 says_served place caller (Waits order) (answer.Reply given) served says = absurd says
 says_served place caller (Waits order) (answer.Wait ticket) served says = (tt, tt)
 says_served place caller Silence given served says = absurd says
+
+-- a reply that is said
+pub reply_served : (said : Said) (reply : Reply) → IfServed said → said ≡ Replies reply → HasStatus (answer.Reply reply) × IsNoPark (answer.Reply reply)
+reply_served said reply served is =
+    let so : IsServed reply = subst IfServed is served in
+    (served_status reply.status so, served_no_park reply.status so)
+
+pub says_reply : (place caller : ℕ) (said : Said) (reply : Reply) → said ≡ Replies reply → Says place caller said (answer.Reply reply)
+says_reply place caller said reply is = subst (λ (s : Said). Says place caller s (answer.Reply reply)) (sym is) refl
 
 -- the reply to a park has a status that replies are written with
 pub park_status : (why : Why) → IsTrue (is_status (park_reply why).status)

@@ -1,5 +1,5 @@
 -- The errors of requests have statuses that replies are written with, and none that is a park's.
-use Rattle.std.proofs.Common.{◌≡◌, ℕ, Bool, true, false, cond, not, ◌==◌, ◌&&◌, List, [], ◌∷◌, Option, Some, None, option_map, Result, Ok, Err, find, refl, IsTrue, codes}
+use Rattle.std.proofs.Common.{◌≡◌, ℕ, Bool, true, false, cond, not, ◌==◌, ◌&&◌, is_none, nat_lt, List, [], ◌∷◌, Option, Some, None, option_map, Result, Ok, Err, find, refl, IsTrue, codes}
 use Rattle.std.specs.Option.{option_or}
 use Rattle.ph_errors.specs.declared.api_error.ApiError.{ApiError}
 use Rattle.ph_errors.specs.Table.{Problem, InvalidApiKey, NoSuchAccount, UnrecognizedUrl, BadName, Clash, TooDeep, ParameterUnknown, ParameterMissing, ParameterInvalidInteger, AmountTooSmall, AmountTooLarge, InvalidValue, NoSuchPaymentMethod, KeyTooLong, KeyNotText, KeyDiffers, KeyInUse, NoSuchObject, UnexpectedState, ChargeNotCaptured, DisputeClosed, ChargeAlreadyRefunded, ChargeDisputed, PlatformOnly, BalanceInsufficient, ClockBackwards, CardDeclined, NotAuthenticated, AcquirerPending, AcquirerFailed, NoMemory, HistoryFull, Malformed, BodyTooLarge, HeadTooLarge, NotImplemented, VersionNotSupported, error_of}
@@ -12,10 +12,12 @@ use Rattle.ph_form.specs.Readers.{text_at, entries_at}
 use Rattle.ph_kinds.specs.declared.flaw.Flaw.{Flaw}
 use Rattle.ph_kinds.specs.declared.flaw.Flaw.TheVariants as flaw
 use Rattle.ph_kinds.specs.Kinds.{text_flaw, map_flaw}
+use Rattle.ph_money.specs.Currencies.{terms_of}
 use Rattle.ph_http.specs.declared.message.Raw.{Raw}
 use Rattle.ph_http.specs.Replies.{is_status}
 use Rattle.ph_calls.specs.declared.call.Call.{Call}
 use Rattle.ph_calls.specs.declared.call.Call.TheVariants as call
+use Rattle.ph_calls.specs.declared.call.CreateIntent.{CreateIntent}
 use Rattle.ph_calls.specs.declared.row.Name.{Name}
 use Rattle.ph_calls.specs.declared.row.Name.TheVariants as name
 use Rattle.ph_calls.specs.Table.{Parameter, Line}
@@ -131,12 +133,20 @@ unless_answered : {X : Type 0} (error : Option ApiError) (made : Result X ApiErr
 unless_answered None made p q = q
 unless_answered (Some error) made p q = p
 
+-- the further checks of a create
+create_answered : (c : CreateIntent) → IfError (create_intent_error c)
+create_answered c =
+    let second : Option ApiError =
+        cond (c.confirm && is_none c.payment_method) (Some (error_of (ParameterMissing (codes "payment_method")))) None in
+    chosen IfError (nat_lt c.amount (terms_of c.currency).minimum) (Some (error_of AmountTooSmall)) second (answered AmountTooSmall)
+    (chosen IfError (c.confirm && is_none c.payment_method) (Some (error_of (ParameterMissing (codes "payment_method")))) None
+    (answered (ParameterMissing (codes "payment_method"))) tt)
+
 -- a call that is refused by its further checks
 call_answered : (called : Name) (id : List ℕ) (leaves : List Leaf) → IfRefused (call_of called id leaves)
 call_answered name.CreateIntent id leaves =
     unless_answered (create_intent_error (create_intent leaves)) (Ok (call.CreateIntent (create_intent leaves)))
-    (chosen IfError _ (Some (error_of AmountTooSmall)) _ (answered AmountTooSmall)
-    (chosen IfError _ (Some (error_of (ParameterMissing (codes "payment_method")))) None (answered (ParameterMissing (codes "payment_method"))) tt)) tt
+    (create_answered (create_intent leaves)) tt
 call_answered name.GetIntent id leaves = tt
 call_answered name.UpdateIntent id leaves = tt
 call_answered name.ConfirmIntent id leaves = tt

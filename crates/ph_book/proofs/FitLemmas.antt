@@ -5,6 +5,7 @@ use Rattle.std.specs.List.{fold}
 use Rattle.std.proofs.lemmas.Bool.{eq-eqb, cond-true}
 use Rattle.std.proofs.lemmas.List.Sums.{fold-append}
 use Rattle.ph_base.specs.declared.acquirer.Method.{Method}
+use Rattle.ph_base.specs.declared.acquirer.Method.TheVariants as method
 use Rattle.ph_base.specs.declared.acquirer.Ruling.{Ruling}
 use Rattle.ph_money.specs.declared.currencies.Currency.{Currency}
 use Rattle.ph_money.specs.Currencies.{terms_of}
@@ -21,6 +22,9 @@ use Rattle.ph_rows.specs.declared.orders.Order.{Order}
 use Rattle.ph_rows.specs.declared.payment_methods.PaymentMethod.{PaymentMethod}
 use Rattle.ph_rows.specs.declared.batches.Announced.{Announced}
 use Rattle.ph_rows.specs.declared.event_kinds.EventKind.{EventKind}
+use Rattle.ph_rows.specs.declared.event_kinds.EventKind.TheVariants as event
+use Rattle.ph_rows.specs.declared.intents.CancellationReason.{CancellationReason}
+use Rattle.ph_rows.specs.declared.intents.PaymentError.TheVariants as payment_error
 use Rattle.ph_rows.specs.Batches.{BatchState, empty_batch, last_place, next_row, with_row, event_rows, made_rows}
 use Rattle.ph_rows.specs.Rows.{later_version, latest_of}
 use Rattle.ph_http.specs.declared.message.Raw.{Raw}
@@ -33,14 +37,16 @@ use Rattle.ph_calls.specs.Outcomes.{Outcome, Refuses, Adds}
 use Rattle.ph_calls.specs.Reading.{reading_of}
 use Rattle.ph_views.specs.Events.{platform}
 use Rattle.ph_intents.specs.Attempts.{attempted, begun, new_attempt, order_in, with_new_attempt}
-use Rattle.ph_intents.specs.Authenticate.{authenticate_of, fail_of}
-use Rattle.ph_intents.specs.Cancel.{cancel_of}
+use Rattle.ph_intents.specs.Authenticate.{authenticate_of, authenticated_intent, fail_of, failed_intent}
+use Rattle.ph_intents.specs.Cancel.{cancel_of, canceled_intent}
 use Rattle.ph_intents.specs.Capture.{capture_amount, capture_of, received_intent}
 use Rattle.ph_intents.specs.Confirm.{confirm_of, confirm_with, paying_intent}
 use Rattle.ph_intents.specs.Create.{first_status, with_intent, create_by, create_outcome, create_confirmed_outcome, created_with, new_intent}
 use Rattle.ph_intents.specs.Finding.{intent_named}
-use Rattle.ph_intents.specs.Refusals.{if_allowed, intent_in, made_of, made_of_row, made_at, no_such_intent, unexpected_state}
-use Rattle.ph_intents.specs.Update.{update_of, update_with, updated_intent, most_keys}
+use Rattle.ph_intents.specs.Refusals.{if_allowed, intent_in, invalid_value, made_of, made_of_row, made_at, no_such_intent, unexpected_state}
+use Rattle.ph_intents.specs.Statuses.{next_status}
+use Rattle.ph_intents.specs.declared.statuses.Step.TheVariants as step
+use Rattle.ph_intents.specs.Update.{step_of, update_of, update_with, updated_intent, most_keys}
 use Rattle.ph_intents.specs.Versions.{adds_told, with_version}
 use Rattle.ph_book.specs.Calls.{is_key, is_platform, found_outcome, created, authenticated, carried, read_outcome, called_at}
 use Rattle.ph_book.proofs.ErrorLemmas.{IsAnswered, IfRefused, answered, chosen, reading_answered}
@@ -153,8 +159,13 @@ version_fit : (count now place account object : ℕ) (intent : Intent) (news : L
 version_fit count now place account object intent news few = (
   record { began = refl; placed = (omega arith, tt); few = omega arith },
   none_asked (record (with_version account object intent (empty_batch count now place)) { announced = news })
-  (one_none (count + 0 + 1) (next_row (empty_batch count now place) object account (item.Intent intent)) refl),
+  (one_none (count + 1) (next_row (empty_batch count now place) object account (item.Intent intent)) refl),
 )
+
+-- one version of a payment intent, which an event tells
+told_fit : (count now place account object : ℕ) (intent : Intent) (sort : EventKind) → IsFit count (adds_told account object intent sort (empty_batch count now place))
+told_fit count now place account object intent sort =
+    version_fit count now place account object intent (record { sort = sort; object = object } ∷ []) (omega arith)
 
 -- one version of a payment intent, and an attempt
 attempted_fit : (count now place account object : ℕ) (intent : Intent) (method : Method)
@@ -167,7 +178,7 @@ attempted_fit count now place account object intent method = (
 -- the create
 create_fit : (rows : List Row) (count now place account : ℕ) (c : CreateIntent) → IsFit count (create_outcome rows account c (empty_batch count now place))
 create_fit rows count now place account c =
-    version_fit count now place account (count + 0 + 1) (new_intent c (first_status c.payment_method)) _ (omega arith)
+    told_fit count now place account (count + 0 + 1) (new_intent c (first_status c.payment_method)) event.IntentCreated
 
 create_with_fit : (count now place account : ℕ) (intent : Intent) (method : Method) → IsFit count (created_with account intent method (empty_batch count now place))
 create_with_fit count now place account intent method = (
@@ -190,29 +201,71 @@ confirm_fit : (count now place account object : ℕ) (intent : Intent) (method :
     → IsFit count (confirm_with account (empty_batch count now place) object intent method)
 confirm_fit count now place account object intent None = answered UnexpectedState
 confirm_fit count now place account object intent (Some method) =
-    allowed_fit count _ _ (λ status. attempted_fit count now place account object (paying_intent method intent status) method.method)
+    allowed_fit count (λ status. attempted account object (paying_intent method intent status) method.method (empty_batch count now place))
+    (next_status intent.status step.Confirm)
+    (λ status. attempted_fit count now place account object (paying_intent method intent status) method.method)
 
 -- the authentication
+authenticate_fit : (count now place account object : ℕ) (intent : Intent) → IsFit count (authenticate_of account (empty_batch count now place) object intent)
+authenticate_fit count now place account object intent =
+    allowed_fit count (λ status. attempted account object (authenticated_intent intent status) method.Authenticated (empty_batch count now place))
+    (next_status intent.status step.Authenticate)
+    (λ status. attempted_fit count now place account object (authenticated_intent intent status) method.Authenticated)
+
+fail_fit : (count now place account object : ℕ) (intent : Intent) → IsFit count (fail_of account (empty_batch count now place) object intent)
+fail_fit count now place account object intent =
+    allowed_fit count (λ status. adds_told account object (failed_intent payment_error.NotAuthenticated intent status) event.IntentPaymentFailed (empty_batch count now place))
+    (next_status intent.status step.Fail)
+    (λ status. told_fit count now place account object (failed_intent payment_error.NotAuthenticated intent status) event.IntentPaymentFailed)
+
 authenticated_fit : (rows : List Row) (now place : ℕ) (c : Authenticate) (outcome : Authentication)
     → IsFit (length rows) (authenticated rows c (empty_batch (length rows) now place) outcome)
 authenticated_fit rows now place c Succeeded =
-    found_fit (length rows) _ (intent_named rows platform c.id) (λ object intent. allowed_fit (length rows) _ _ (λ status. attempted_fit (length rows) now place platform object _ _))
+    found_fit (length rows) (authenticate_of platform (empty_batch (length rows) now place)) (intent_named rows platform c.id)
+    (authenticate_fit (length rows) now place platform)
 authenticated_fit rows now place c Failed =
-    found_fit (length rows) _ (intent_named rows platform c.id) (λ object intent. allowed_fit (length rows) _ _ (λ status. version_fit (length rows) now place platform object _ _ (omega arith)))
+    found_fit (length rows) (fail_of platform (empty_batch (length rows) now place)) (intent_named rows platform c.id)
+    (fail_fit (length rows) now place platform)
 
 -- the capture
-capture_fit : (count now place account amount object : ℕ) (intent : Intent) (status : IntentStatus)
+amount_fit : (count now place account amount object : ℕ) (intent : Intent) (status : IntentStatus)
     → IsFit count (capture_amount account amount (empty_batch count now place) object intent status)
-capture_fit count now place account amount object intent status =
-    chosen (IsFit count) (amount == 0 || nat_lt intent.amount_capturable amount) _ _ (answered (InvalidValue (codes "amount_to_capture")))
-    (version_fit count now place account object (received_intent amount intent status) _ (omega arith))
+amount_fit count now place account amount object intent status =
+    chosen (IsFit count) (amount == 0 || nat_lt intent.amount_capturable amount) (invalid_value (codes "amount_to_capture"))
+    (adds_told account object (received_intent amount intent status) event.IntentSucceeded (empty_batch count now place))
+    (answered (InvalidValue (codes "amount_to_capture")))
+    (told_fit count now place account object (received_intent amount intent status) event.IntentSucceeded)
+
+capture_fit : (count now place account : ℕ) (amount : Option ℕ) (object : ℕ) (intent : Intent)
+    → IsFit count (capture_of account amount (empty_batch count now place) object intent)
+capture_fit count now place account amount object intent =
+    let captured : ℕ = unwrap_or amount intent.amount_capturable in
+    allowed_fit count (λ status. capture_amount account captured (empty_batch count now place) object intent status)
+    (next_status intent.status step.Capture) (amount_fit count now place account captured object intent)
+
+-- the cancel
+cancel_fit : (count now place account : ℕ) (reason : Option CancellationReason) (object : ℕ) (intent : Intent)
+    → IsFit count (cancel_of account reason (empty_batch count now place) object intent)
+cancel_fit count now place account reason object intent =
+    allowed_fit count (λ status. adds_told account object (canceled_intent reason intent status) event.IntentCanceled (empty_batch count now place))
+    (next_status intent.status step.Cancel)
+    (λ status. told_fit count now place account object (canceled_intent reason intent status) event.IntentCanceled)
 
 -- the update
-update_fit : (count now place account object : ℕ) (intent : Intent) → IsFit count (update_with account (empty_batch count now place) object intent)
-update_fit count now place account object intent =
-    chosen (IsFit count) (nat_lt intent.amount (terms_of intent.currency).minimum) _ _ (answered AmountTooSmall)
-    (chosen (IsFit count) (nat_lt most_keys (length intent.metadata)) _ _ (answered (InvalidValue (codes "metadata")))
+result_fit : (count now place account object : ℕ) (intent : Intent) → IsFit count (update_with account (empty_batch count now place) object intent)
+result_fit count now place account object intent =
+    let added : Outcome = Adds object (with_version account object intent (empty_batch count now place)) in
+    let second : Outcome = cond (nat_lt most_keys (length intent.metadata)) (invalid_value (codes "metadata")) added in
+    chosen (IsFit count) (nat_lt intent.amount (terms_of intent.currency).minimum) (Refuses (error_of AmountTooSmall)) second (answered AmountTooSmall)
+    (chosen (IsFit count) (nat_lt most_keys (length intent.metadata)) (invalid_value (codes "metadata")) added (answered (InvalidValue (codes "metadata")))
     (version_fit count now place account object intent [] (omega arith)))
+
+update_fit : (count now place account : ℕ) (c : UpdateIntent) (object : ℕ) (intent : Intent)
+    → IsFit count (update_of account c (empty_batch count now place) object intent)
+update_fit count now place account c object intent =
+    allowed_fit count (λ status. update_with account (empty_batch count now place) object (updated_intent c intent status))
+    (next_status intent.status (step_of c))
+    (λ status. result_fit count now place account object (updated_intent c intent status))
 
 -- the retrieve
 retrieved_fit : (count now place : ℕ) (found : Option Row) → IsFit count (found_outcome found (empty_batch count now place))
@@ -224,13 +277,17 @@ carried_fit : (rows : List Row) (now place : ℕ) (c : Call) → IsFit (length r
 carried_fit rows now place (call.CreateIntent c) = created_fit rows now place c
 carried_fit rows now place (call.GetIntent c) = retrieved_fit (length rows) now place (intent_named rows platform c.id)
 carried_fit rows now place (call.UpdateIntent c) =
-    found_fit (length rows) _ (intent_named rows platform c.id) (λ object intent. allowed_fit (length rows) _ _ (λ status. update_fit (length rows) now place platform object (updated_intent c intent status)))
+    found_fit (length rows) (update_of platform c (empty_batch (length rows) now place)) (intent_named rows platform c.id)
+    (update_fit (length rows) now place platform c)
 carried_fit rows now place (call.ConfirmIntent c) =
-    found_fit (length rows) _ (intent_named rows platform c.id) (λ object intent. confirm_fit (length rows) now place platform object intent (option_or c.payment_method intent.payment_method))
+    found_fit (length rows) (confirm_of platform c.payment_method (empty_batch (length rows) now place)) (intent_named rows platform c.id)
+    (λ object intent. confirm_fit (length rows) now place platform object intent (option_or c.payment_method intent.payment_method))
 carried_fit rows now place (call.CaptureIntent c) =
-    found_fit (length rows) _ (intent_named rows platform c.id) (λ object intent. allowed_fit (length rows) _ _ (λ status. capture_fit (length rows) now place platform (unwrap_or c.amount_to_capture intent.amount_capturable) object intent status))
+    found_fit (length rows) (capture_of platform c.amount_to_capture (empty_batch (length rows) now place)) (intent_named rows platform c.id)
+    (capture_fit (length rows) now place platform c.amount_to_capture)
 carried_fit rows now place (call.CancelIntent c) =
-    found_fit (length rows) _ (intent_named rows platform c.id) (λ object intent. allowed_fit (length rows) _ _ (λ status. version_fit (length rows) now place platform object _ _ (omega arith)))
+    found_fit (length rows) (cancel_of platform c.cancellation_reason (empty_batch (length rows) now place)) (intent_named rows platform c.id)
+    (cancel_fit (length rows) now place platform c.cancellation_reason)
 carried_fit rows now place (call.Authenticate c) = authenticated_fit rows now place c c.outcome
 
 read_fit : (rows : List Row) (now place : ℕ) (reading : Result Call ApiError) → IfRefused reading

@@ -86,7 +86,7 @@ live_next : (places rows grown : ℕ) (attempts : List flights.Attempt) (step : 
     → IsNext places rows grown attempts step → length (live_of (after_step attempts step)) ≤ length (live_of attempts) + 1
 live_next places rows grown attempts None kept next = omega arith
 live_next places rows grown attempts (Some (Begins flight)) kept next =
-    let more = live_begun attempts flight (none_above places rows flight.order.reference attempts kept.below next.1.0) in omega (arith, more)
+    let more = live_begun attempts flight (none_above places rows flight.order.reference attempts kept.below next.1) in omega (arith, more)
 live_next places rows grown attempts (Some (Resumes flight)) kept next = absurd next
 live_next places rows grown attempts (Some (Parks flight)) kept next =
     let fewer = live_parked attempts flight kept.one_each next in omega (arith, fewer)

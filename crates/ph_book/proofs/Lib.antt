@@ -4,3 +4,4 @@ pub mod FitLemmas
 pub mod HistoryLemmas
 pub mod EffectLemmas
 pub mod LawLemmas
+pub mod StepLemmas

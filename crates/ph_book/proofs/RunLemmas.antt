@@ -187,7 +187,7 @@ below_found places rows reference (attempt ∷ attempts) found below h =
 
 left_below : (places rows grown : ℕ) (attempts : List Attempt) (step : Step) → AreKept places rows attempts → rows ≤ grown
     → IsNext places rows grown attempts (Some step) → AreBelow (places + 1) grown (left_by step)
-left_below places rows grown attempts (Begins flight) kept more next = ((omega (arith, next.0), omega (arith, next.1.1)), tt)
+left_below places rows grown attempts (Begins flight) kept more next = ((omega (arith, next.0), omega (arith, next.2)), tt)
 left_below places rows grown attempts (Resumes flight) kept more next = absurd next
 left_below places rows grown attempts (Parks flight) kept more next =
     let found = below_found places rows flight.order.reference attempts (Live flight) kept.below next in

@@ -6,6 +6,7 @@ ghost use Rattle.ph_lock.specs.declared.object.Refused.{Refused};
 ghost use Rattle.ph_book.specs.declared.acts.Deed.TheVariants as deed;
 ghost use Rattle.ph_book.specs.State.{BookState, entered};
 ghost use Rattle.ph_book.specs.Answers.{HasStatus, IsAnswerTo, Says, replies_in};
+ghost use Rattle.ph_book.specs.Called.{IsCalled};
 ghost use Rattle.ph_book.specs.Entries.{IsGranted, call_entry, deed_of, entry_of, finish_entry, park_entry};
 ghost use Rattle.ph_book.specs.History.{effect_to, opening_row, replies_of, said_to};
 ghost use Rattle.ph_book.specs.Replies.{Replies, park_reply};
@@ -15,7 +16,7 @@ ghost use Rattle.ph_book.specs.Tickets.{HandsOut, Holds, SpendsOwn};
 use crate::acts::{Act, Answer, Deed, Entry};
 use crate::calls::{Called, PLATFORM, called_by};
 use crate::endings::{Ending, parked_row, settled};
-use crate::room::{push_row, take_room};
+use crate::room::{one_less, push_row, take_room};
 use crate::setup::Setup;
 use crate::spares::{Spare, add_spare, take_spare};
 use crate::weights::{self, row_weight};
@@ -143,15 +144,33 @@ impl Book {
         }
         let place = self.entries.len() as u64 + 1;
         match called_by(self.alloc, &self.setup.key, &self.view, place, &raw) {
-            Ok(Called::Answered(reply, rows)) => match self.enter(caller, raw, rows) {
-                Ok(()) => Ok(Answer::Reply(reply)),
-                Err(raw) => Err((raw, Refused::NoMemory)),
-            },
-            Ok(Called::Waiting(order, rows)) => match self.begin(caller, raw, order, rows) {
-                Ok(ticket) => Ok(Answer::Wait(ticket)),
+            Ok(called) => match self.enter_called(caller, raw, called) {
+                Ok(answer) => Ok(answer),
                 Err(raw) => Err((raw, Refused::NoMemory)),
             },
             Err(NoMemory) => Err((raw, Refused::NoMemory)),
+        }
+    }
+
+    // Enters a call that comes to this.
+    fn enter_called(&mut self, caller: u64, raw: Raw, called: Called) -> Result<Answer, Raw>
+        requires caller { caller < 2 ^ 62 }
+        requires room { is_full self.old.setup self.old.history (deed.Call raw) ≡ false }
+        requires called { IsCalled (length self.old.history + 1) caller (effect_to self.old.setup self.old.history (call_entry caller raw)) called }
+        ensures entry { OnOk result (self.new ≡ entered self.old (call_entry caller raw)) }
+        ensures answer { IfOk result (λ answer. Says (length self.old.history + 1) caller (said_to self.old.setup self.old.history (call_entry caller raw)) answer) }
+        ensures live { IfOk result (λ answer. HandsOut self.new.setup self.new.history caller answer) }
+        ensures unchanged { IfErr result (λ back. (back ≡ raw) × (self.new ≡ self.old)) }
+    {
+        match called {
+            Called::Answered(reply, rows) => match self.enter(caller, raw, rows) {
+                Ok(()) => Ok(Answer::Reply(reply)),
+                Err(raw) => Err(raw),
+            },
+            Called::Waiting(order, rows) => match self.begin(caller, raw, order, rows) {
+                Ok(ticket) => Ok(Answer::Wait(ticket)),
+                Err(raw) => Err(raw),
+            },
         }
     }
 
@@ -229,6 +248,7 @@ impl Book {
         ensures said { IfOk result (λ reply. said_to self.old.setup self.old.history (finish_entry caller ticket ruling) ≡ Replies reply) }
         ensures unchanged { IfErr result (λ back. (back ≡ ticket) × (self.new ≡ self.old)) }
     {
+        let live = one_less(self.live);
         let place = self.entries.len() as u64 + 1;
         let attempt = ticket.order().reference;
         let Ending { reply, rows } =
@@ -236,7 +256,6 @@ impl Book {
                 Ok(ending) => ending,
                 Err(NoMemory) => return Err(ticket),
             };
-        let live = self.live - 1;
         let Some(weight) = weights::weight_after(self.weight, rows.as_slice(), live) else {
             return Err(ticket);
         };
@@ -253,7 +272,7 @@ impl Book {
         self.view.append_reserved(rows);
         self.weight = weight;
         self.live = live;
-        let _spare = self.spares.pop();
+        let _spare = take_spare(&mut self.spares);
         Ok(reply)
     }
 
@@ -265,8 +284,8 @@ impl Book {
         ensures said { said_to self.old.setup self.old.history (park_entry caller ticket why) ≡ Replies result }
         ensures reply { result ≡ park_reply why }
     {
-        let place = self.entries.len() as u64 + 1;
-        let row = parked_row(&self.view, place, ticket.order().reference);
+        let live = one_less(self.live);
+        let row = parked_row(&self.view, ticket.order().reference);
         let run = ticket.run();
         self.attempts.park(ticket);
         self.entries.push_reserved(Entry {
@@ -275,7 +294,7 @@ impl Book {
         });
         self.weight += row_weight(&row);
         push_row(&mut self.view, row);
-        self.live -= 1;
+        self.live = live;
         take_spare(&mut self.spares).reply(why)
     }
 

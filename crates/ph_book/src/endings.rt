@@ -1,5 +1,5 @@
 //! What the end of a run comes to.
-ghost use Rattle.std.specs.Prelude.{◌≡◌, length, IfOk, option_to_list};
+ghost use Rattle.std.specs.Prelude.{◌≡◌, ℕ, length, IfOk, option_to_list};
 ghost use Rattle.ph_rows.specs.Batches.{empty_batch};
 ghost use Rattle.ph_intents.specs.Attempts.{attempt_in};
 ghost use Rattle.ph_intents.specs.Settle.{settle_outcome};
@@ -49,8 +49,8 @@ fn attempt_in(item: &Item) -> Option<Attempt>
 }
 
 /// The row that parks the attempt of a number, over the rows of a view. It takes no memory.
-pub fn parked_row(view: &ListView, place: u64, attempt: u64) -> Option<Row>
-    ensures { option_to_list result ≡ parked_rows view.now.rows view.now.time place attempt }
+pub fn parked_row(view: &ListView, attempt: u64) -> Option<Row>
+    ensures { (place : ℕ) → option_to_list result ≡ parked_rows view.now.rows view.now.time place attempt }
 {
     let row = view.latest(attempt)?;
     let mut parked = attempt_in(&row.item)?;

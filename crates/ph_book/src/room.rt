@@ -37,3 +37,11 @@ pub fn push_row(view: &mut ListView, row: Option<Row>)
         None => {}
     }
 }
+
+/// How many runs are live once one of them has ended.
+pub fn one_less(live: usize) -> usize
+    requires { 0 < live }
+    ensures { result + 1 ≡ live }
+{
+    live - 1
+}

@@ -1,0 +1,40 @@
+use Rattle.std.proofs.Common.{ap, ◌∙◌, ◌+◌, length, arith}
+use Rattle.ph_book.specs.declared.acts.Deed.TheVariants as deed
+use Rattle.ph_book.proofs.HistoryLemmas.{full_is, has_room, no_room}
+use Rattle.ph_book.proofs.StepLemmas.{called_is}
+use Rattle.ph_book.proofs.book.Book.call.Goals as goal
+
+pub returns-then-is_full-clause-full : goal.returns-then-is_full-clause-full
+returns-then-is_full-clause-full c =
+    let used = ap (λ n. n + c.self.inside.live) (c.len.ensures ∙ c.self.inside.entries.ok.0) in
+    let test = full_is _ _ _ _ _ _ _ _ _ (deed.Call c.args.raw) _ c.self.view_is c.self.invariant.0 used c.is_full.ensures in
+    no_room _ _ test c.if-is_full.true
+
+pub enter_called-requires-clause-room : goal.enter_called-requires-clause-room
+enter_called-requires-clause-room c =
+    let used = ap (λ n. n + c.self.inside.live) (c.len.ensures ∙ c.self.inside.entries.ok.0) in
+    let test = full_is _ _ _ _ _ _ _ _ _ (deed.Call c.args.raw) _ c.self.view_is c.self.invariant.0 used c.is_full.ensures in
+    test ∙ c.if-is_full.false
+
+pub enter_called-requires-clause-called : goal.enter_called-requires-clause-called
+enter_called-requires-clause-called c =
+    let place = ap (λ n. n + 1) (c.len-2.ensures ∙ c.self.inside.entries.ok.0) in
+    called_is _ _ _ _ _ _ _ _ _ c.args.caller c.args.raw _ c.self.view_is c.self.invariant.0 place (c.in-Ok.ensures c.args.caller)
+
+pub returns-in-Ok-enter_called-clause-room : goal.returns-in-Ok-enter_called-clause-room
+returns-in-Ok-enter_called-clause-room c =
+    let used = ap (λ n. n + c.self.inside.live) (c.len.ensures ∙ c.self.inside.entries.ok.0) in
+    let test = full_is _ _ _ _ _ _ _ _ _ (deed.Call c.args.raw) _ c.self.view_is c.self.invariant.0 used c.is_full.ensures in
+    test ∙ c.if-is_full.false
+
+pub returns-in-Err-enter_called-clause-full : goal.returns-in-Err-enter_called-clause-full
+returns-in-Err-enter_called-clause-full c =
+    let used = ap (λ n. n + c.self.inside.live) (c.len.ensures ∙ c.self.inside.entries.ok.0) in
+    let test = full_is _ _ _ _ _ _ _ _ _ (deed.Call c.args.raw) _ c.self.view_is c.self.invariant.0 used c.is_full.ensures in
+    has_room _ (test ∙ c.if-is_full.false)
+
+pub returns-in-Err-clause-full : goal.returns-in-Err-clause-full
+returns-in-Err-clause-full c =
+    let used = ap (λ n. n + c.self.inside.live) (c.len.ensures ∙ c.self.inside.entries.ok.0) in
+    let test = full_is _ _ _ _ _ _ _ _ _ (deed.Call c.args.raw) _ c.self.view_is c.self.invariant.0 used c.is_full.ensures in
+    has_room _ (test ∙ c.if-is_full.false)
