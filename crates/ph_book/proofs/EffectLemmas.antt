@@ -161,8 +161,8 @@ counted_more setup past entry counted =
     let number : length (rows ++ h.rows) ≡ length rows + length h.rows = length-append rows h.rows in
     let placed : ArePlaced 0 (rows ++ h.rows) = placed_append 0 rows h.rows counted.placed (subst (λ n. ArePlaced n h.rows) (omega arith) continues.placed) in
     let kept : AreKept (length past + 1) (length (rows ++ h.rows)) (after_step (attempts_after past) h.step) =
-        subst (λ n. AreKept (length past + 1) n (after_step (attempts_after past) h.step)) (sym number)
-        (kept_step (length past) (length rows) (length rows + length h.rows) (attempts_after past) h.step counted.kept (omega arith) orderly.next) in
+    subst (λ n. AreKept (length past + 1) n (after_step (attempts_after past) h.step)) (sym number)
+    (kept_step (length past) (length rows) (length rows + length h.rows) (attempts_after past) h.step counted.kept (omega arith) orderly.next) in
     let all : AreCounted (length past + 1) (rows ++ h.rows) (after_step (attempts_after past) h.step) = record { placed = placed; few = omega arith; kept = kept } in
     subst (λ (p : List Row × List flights.Attempt). AreCounted (length past + 1) p.0 p.1)
     (λ i. (sym (rows_more setup past h) i, sym (attempts_more past h) i)) all
@@ -174,7 +174,7 @@ counted_from setup past (entry ∷ entries) counted =
     let next : List Happening = and_then setup past entry in
     let one : length next ≡ length past + 1 = length-append past (happening_of setup past entry ∷ []) in
     let more : AreCounted (length next) (rows_after setup next) (attempts_after next) =
-        subst (λ n. AreCounted n (rows_after setup next) (attempts_after next)) (sym one) (counted_more setup past entry counted) in
+    subst (λ n. AreCounted n (rows_after setup next) (attempts_after next)) (sym one) (counted_more setup past entry counted) in
     subst (λ n. AreCounted n (rows_after setup (fold (and_then setup) next entries)) (attempts_after (fold (and_then setup) next entries))) (omega arith)
     (counted_from setup next entries more)
 

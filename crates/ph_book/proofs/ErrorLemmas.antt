@@ -137,7 +137,7 @@ unless_answered (Some error) made p q = p
 create_answered : (c : CreateIntent) → IfError (create_intent_error c)
 create_answered c =
     let second : Option ApiError =
-        cond (c.confirm && is_none c.payment_method) (Some (error_of (ParameterMissing (codes "payment_method")))) None in
+    cond (c.confirm && is_none c.payment_method) (Some (error_of (ParameterMissing (codes "payment_method")))) None in
     chosen IfError (nat_lt c.amount (terms_of c.currency).minimum) (Some (error_of AmountTooSmall)) second (answered AmountTooSmall)
     (chosen IfError (c.confirm && is_none c.payment_method) (Some (error_of (ParameterMissing (codes "payment_method")))) None
     (answered (ParameterMissing (codes "payment_method"))) tt)

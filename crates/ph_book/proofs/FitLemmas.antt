@@ -89,7 +89,7 @@ small_continues count batch small =
     let events : List Row = event_rows None batch.at batch.rows (last_place batch) batch.announced in
     let last : last_place batch ≡ count + length batch.rows = ap (λ n. n + length batch.rows) small.began in
     let behind : ArePlaced (count + length batch.rows) events =
-        subst (λ n. ArePlaced n events) last (events_placed None batch.at batch.rows (last_place batch) batch.announced) in
+    subst (λ n. ArePlaced n events) last (events_placed None batch.at batch.rows (last_place batch) batch.announced) in
     let number : length events ≡ length batch.announced = events_few None batch.at batch.rows (last_place batch) batch.announced in
     let all : length (batch.rows ++ events) ≡ length batch.rows + length events = length-append batch.rows events in
     let small_few = small.few in
@@ -98,7 +98,7 @@ small_continues count batch small =
 pub made_longer : (batch : BatchState) → length batch.rows ≤ length (made_rows None batch)
 made_longer batch =
     let all : length (made_rows None batch) ≡ length batch.rows + length (event_rows None batch.at batch.rows (last_place batch) batch.announced) =
-        length-append batch.rows (event_rows None batch.at batch.rows (last_place batch) batch.announced) in
+    length-append batch.rows (event_rows None batch.at batch.rows (last_place batch) batch.announced) in
     omega (arith, all)
 
 -- ---- the attempt that a batch begins
@@ -124,8 +124,8 @@ attempt_asked account intent amount currency method batch order e =
     let long : length (batch.rows ++ row ∷ []) ≡ length batch.rows + 1 = length-append batch.rows (row ∷ []) in
     let last : last_place batch + 1 ≡ last_place new = omega (arith, long) in
     let found : latest_of (last_place new) (batch.rows ++ row ∷ []) ≡ Some row =
-        fold-append (later_version (last_place new)) None batch.rows (row ∷ [])
-        ∙ cond-true (eqb row.object (last_place new)) (Some row) (latest_of (last_place new) batch.rows) (eq-eqb (last_place batch + 1) (last_place new) last) in
+    fold-append (later_version (last_place new)) None batch.rows (row ∷ [])
+    ∙ cond-true (eqb row.object (last_place new)) (Some row) (latest_of (last_place new) batch.rows) (eq-eqb (last_place batch + 1) (last_place new) last) in
     let same : Some (new_attempt intent amount currency method batch).order ≡ Some order = sym (ap order_in found) ∙ e in
     let is : (new_attempt intent amount currency method batch).order ≡ order = cc in
     let number : last_place batch + 1 ≡ order.reference = ap (λ (o : Order). o.reference) is in
@@ -159,7 +159,7 @@ version_fit : (count now place account object : ℕ) (intent : Intent) (news : L
 version_fit count now place account object intent news few = (
   record { began = refl; placed = (omega arith, tt); few = omega arith },
   none_asked (record (with_version account object intent (empty_batch count now place)) { announced = news })
-  (one_none (count + 1) (next_row (empty_batch count now place) object account (item.Intent intent)) refl),
+      (one_none (count + 1) (next_row (empty_batch count now place) object account (item.Intent intent)) refl),
 )
 
 -- one version of a payment intent, which an event tells

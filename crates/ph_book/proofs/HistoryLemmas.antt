@@ -162,7 +162,7 @@ full_is book setup history rows time weight attempts live used deed test is b co
     let counted : live ≡ length (live_of (attempts_after past)) = b.live_is ∙ ap (λ x. length (live_of x)) b.attempts_are in
     let same : used ≡ used_after past = omega (arith, size, counted, count) in
     let here : is_full_at setup used weight deed ≡ is_full_after setup past deed =
-        ap (λ (p : ℕ × ℕ). is_full_at setup p.0 p.1 deed) (λ i. (same i, b.weight_is i)) in
+    ap (λ (p : ℕ × ℕ). is_full_at setup p.0 p.1 deed) (λ i. (same i, b.weight_is i)) in
     subst (λ (x : BookState). is_full_after x.setup (past_of x.setup x.history) deed ≡ test) is (sym (tested ∙ here))
 
 -- where there is no room, Full is what is answered; where there is, it isn't

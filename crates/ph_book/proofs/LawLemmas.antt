@@ -78,7 +78,7 @@ or_false false b e = refl
 call_left : (setup : Setup) (past : List Happening) (raw : Raw) → is_full_after setup past (deed.Call raw) ≡ false → used_after past + 2 ≤ setup.entries
 call_left setup past raw room =
     let few : nat_lt setup.entries (used_after past + 2) ≡ false =
-        or_false (nat_lt setup.entries (used_after past + 2)) (nat_lt setup.weight (weight_after setup past + raw_weight raw)) room in
+    or_false (nat_lt setup.entries (used_after past + 2)) (nat_lt setup.weight (weight_after setup past + raw_weight raw)) room in
     grind (arith, nat_tests)
 
 -- the live runs after a step
@@ -104,13 +104,13 @@ used_next setup past caller (deed.Call raw) counted own room used =
     omega (arith, more, left)
 used_next setup past caller (deed.Finish run ruling) counted own room used =
     let step : (effect_after setup past (record { caller = caller; deed = deed.Finish run ruling })).step ≡ Some (Settles own.0) =
-        ap (λ found. (finish_effect (rows_after setup past) (time_after setup past) (length past + 1) ruling found).step) own.1 in
+    ap (λ found. (finish_effect (rows_after setup past) (time_after setup past) (length past + 1) ruling found).step) own.1 in
     let fewer = live_settled (attempts_after past) own.0 counted.kept.one_each (entry_of_run caller run (attempts_after past) own.0 counted.kept.one_each own.1) in
     let same = ap (λ (s : Option Step). length (live_of (after_step (attempts_after past) s))) step in
     omega (arith, fewer, same, used)
 used_next setup past caller (deed.Park run why) counted own room used =
     let step : (effect_after setup past (record { caller = caller; deed = deed.Park run why })).step ≡ Some (Parks own.0) =
-        ap (λ found. (park_effect (rows_after setup past) (time_after setup past) (length past + 1) why found).step) own.1 in
+    ap (λ found. (park_effect (rows_after setup past) (time_after setup past) (length past + 1) why found).step) own.1 in
     let fewer = live_parked (attempts_after past) own.0 counted.kept.one_each (entry_of_run caller run (attempts_after past) own.0 counted.kept.one_each own.1) in
     let same = ap (λ (s : Option Step). length (live_of (after_step (attempts_after past) s))) step in
     omega (arith, fewer, same, used)
@@ -126,7 +126,7 @@ legal_few setup past (entry ∷ entries) counted used allowed =
     let more = used_next setup past entry.caller entry.deed counted (allowed.0).own (allowed.0).room used in
     let same = ap (λ attempts. length (live_of attempts)) live in
     let counts : AreCounted (length next) (rows_after setup next) (attempts_after next) =
-        subst (λ n. AreCounted n (rows_after setup next) (attempts_after next)) (sym one) (counted_more setup past entry counted) in
+    subst (λ n. AreCounted n (rows_after setup next) (attempts_after next)) (sym one) (counted_more setup past entry counted) in
     let rest = legal_few setup next entries counts (omega (arith, one, same, more)) allowed.1 in
     omega (arith, one, rest)
 

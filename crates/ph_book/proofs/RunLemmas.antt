@@ -54,7 +54,7 @@ entry_of_run caller run (Live first ∷ attempts) flight each h = at (entry_of_r
         let same : Some first ≡ Some flight = rw e at h in
         let is : first ≡ flight = cc in
         let found : has_reference flight.order.reference (Live first) ≡ true =
-            eq-eqb first.order.reference flight.order.reference (ap (λ (x : Flight). x.order.reference) is) in
+        eq-eqb first.order.reference flight.order.reference (ap (λ (x : Flight). x.order.reference) is) in
         rw found (ap (λ (x : Flight). Some (Live x)) is)
     at more false e = passed_by (Live first) (Live flight) attempts flight.order.reference each.0 (more (rw e at h))
 
@@ -79,6 +79,7 @@ live_without reference (first ∷ attempts) flight each h = at (live_without ref
         → length (live_of (attempt ∷ flights)) + 1 ≡ length (live_of (attempt ∷ attempts))
     kept (Live other) flights more = omega (arith, more)
     kept (Parked other) flights more = more
+
     at : (entry_of attempts reference ≡ Some (Live flight) → length (live_of (without reference attempts)) + 1 ≡ length (live_of attempts))
         → (test : Bool) → has_reference reference first ≡ test
         → length (live_of (without reference (first ∷ attempts))) + 1 ≡ length (live_of (first ∷ attempts))

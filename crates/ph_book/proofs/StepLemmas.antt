@@ -57,7 +57,7 @@ pub called_is : (old : BookState) (setup : Setup) (history : List Entry) (rows :
 called_is old setup history rows time weight attempts live place caller raw made is b at comes =
     let here : place ≡ length old.history + 1 = at ∙ ap (λ (x : BookState). length x.history + 1) is in
     let same : call_effect rows place caller (called_at setup.key rows time place raw) ≡ effect_to old.setup old.history (call_entry caller raw) =
-        sym (call_is old setup history rows time weight attempts live place caller raw (call_effect rows place caller (called_at setup.key rows time place raw)) is b at refl) in
+    sym (call_is old setup history rows time weight attempts live place caller raw (call_effect rows place caller (called_at setup.key rows time place raw)) is b at refl) in
     subst (λ (p : ℕ × Effect). IsCalled p.0 caller p.1 made) (λ i. (here i, same i)) comes
 
 -- what a book keeps after a call that makes these rows and this step
@@ -71,9 +71,9 @@ call_book old setup history rows time weight attempts live caller raw new step l
     let here : BookState = record { setup = setup; history = history } in
     let room_here : is_full setup history (deed.Call raw) ≡ false = subst (λ (x : BookState). is_full x.setup x.history (deed.Call raw) ≡ false) (sym is) room in
     let made_here : (effect_to setup history (call_entry caller raw)).rows ≡ new =
-        subst (λ (x : BookState). (effect_to x.setup x.history (call_entry caller raw)).rows ≡ new) (sym is) made in
+    subst (λ (x : BookState). (effect_to x.setup x.history (call_entry caller raw)).rows ≡ new) (sym is) made in
     let step_here : (effect_to setup history (call_entry caller raw)).step ≡ step =
-        subst (λ (x : BookState). (effect_to x.setup x.history (call_entry caller raw)).step ≡ step) (sym is) stepped in
+    subst (λ (x : BookState). (effect_to x.setup x.history (call_entry caller raw)).step ≡ step) (sym is) stepped in
     book_more setup history rows time weight attempts live (call_entry caller raw) new step live' b
     (may_come setup history caller (deed.Call raw) below tt room_here) made_here step_here counted
 
@@ -86,12 +86,12 @@ call_next old setup history rows time weight attempts live caller raw flight is 
     let place : ℕ = length history + 1 in
     let orderly = effect_orderly setup rows time (length history) caller attempts (deed.Call raw) kept in
     let same : effect_of setup rows time attempts place caller (deed.Call raw) ≡ effect_to setup history (call_entry caller raw) =
-        effect_is setup history rows time weight attempts live place (call_entry caller raw) b refl in
+    effect_is setup history rows time weight attempts live place (call_entry caller raw) b refl in
     let step : (effect_to setup history (call_entry caller raw)).step ≡ Some (Begins flight) =
-        subst (λ (x : BookState). (effect_to x.setup x.history (call_entry caller raw)).step ≡ Some (Begins flight)) (sym is) stepped in
+    subst (λ (x : BookState). (effect_to x.setup x.history (call_entry caller raw)).step ≡ Some (Begins flight)) (sym is) stepped in
     let next : IsNext (length history) (length rows) (length rows + length (effect_of setup rows time attempts place caller (deed.Call raw)).rows) attempts (Some (Begins flight)) =
-        subst (IsNext (length history) (length rows) (length rows + length (effect_of setup rows time attempts place caller (deed.Call raw)).rows) attempts)
-        (ap (λ (effect : Effect). effect.step) same ∙ step) orderly.next in
+    subst (IsNext (length history) (length rows) (length rows + length (effect_of setup rows time attempts place caller (deed.Call raw)).rows) attempts)
+    (ap (λ (effect : Effect). effect.step) same ∙ step) orderly.next in
     next.1
 
 -- the attempt that a call begins is a new one
@@ -126,7 +126,7 @@ begun_held old new setup history rows rows' time weight weight' attempts live li
     let run_here : flight.run ≡ length history + 1 = run ∙ ap (λ (x : BookState). length x.history + 1) (sym is) in
     let found : run_in (after attempts (Begins flight)) flight.caller flight.run ≡ Some flight = found_begun (length history) (length rows) attempts flight kept run_here in
     let here : run_in (attempts_of setup (history ++ entry ∷ [])) flight.caller flight.run ≡ Some flight =
-        subst (λ runs. run_in runs flight.caller flight.run ≡ Some flight) grown.attempts_are found in
+    subst (λ runs. run_in runs flight.caller flight.run ≡ Some flight) grown.attempts_are found in
     subst (λ (x : BookState). run_in (attempts_of x.setup x.history) flight.caller flight.run ≡ Some flight) (sym now_is) here
 
 -- ---- the ends of runs
@@ -138,7 +138,7 @@ held_run : (old : BookState) (setup : Setup) (history : List Entry) (rows : List
 unfolding Holds
 held_run old setup history rows time weight attempts live caller ticket is b holds =
     let here : run_in (attempts_of setup history) caller ticket.run ≡ Some ticket =
-        subst (λ (x : BookState). run_in (attempts_of x.setup x.history) caller ticket.run ≡ Some ticket) (sym is) holds in
+    subst (λ (x : BookState). run_in (attempts_of x.setup x.history) caller ticket.run ≡ Some ticket) (sym is) holds in
     subst (λ runs. run_in runs caller ticket.run ≡ Some ticket) (sym b.attempts_are) here
 
 -- so one run at least is live
@@ -203,9 +203,9 @@ finish_book old setup history rows time weight attempts live live' place caller 
     let own : run_in (attempts_of setup history) caller ticket.run ≡ Some ticket = subst (λ runs. run_in runs caller ticket.run ≡ Some ticket) b.attempts_are run in
     let holds_here : Holds setup history caller ticket = subst (λ (x : BookState). Holds x.setup x.history caller ticket) (sym is) holds in
     let comes : effect_to setup history (finish_entry caller ticket ruling) ≡ finish_effect rows time place ruling (Some ticket) =
-        finish_is here setup history rows time weight attempts live place caller ticket ruling refl b holds_here at in
+    finish_is here setup history rows time weight attempts live place caller ticket ruling refl b holds_here at in
     let settled = live_settled attempts ticket (kept_of setup history rows time weight attempts live b).one_each
-        (held_entry old setup history rows time weight attempts live caller ticket is b holds) in
+    (held_entry old setup history rows time weight attempts live caller ticket is b holds) in
     let counted = b.live_is in
     book_more setup history rows time weight attempts live (finish_entry caller ticket ruling) new (Some (Settles ticket)) live' b
     (may_come setup history caller (deed.Finish ticket.run ruling) below (ticket, own) (finish_room setup history ticket.run ruling))
@@ -237,9 +237,9 @@ park_book old setup history rows time weight attempts live live' place caller ti
     let own : run_in (attempts_of setup history) caller ticket.run ≡ Some ticket = subst (λ runs. run_in runs caller ticket.run ≡ Some ticket) b.attempts_are run in
     let holds_here : Holds setup history caller ticket = subst (λ (x : BookState). Holds x.setup x.history caller ticket) (sym is) holds in
     let comes : effect_to setup history (park_entry caller ticket why) ≡ park_effect rows time place why (Some ticket) =
-        park_is here setup history rows time weight attempts live place caller ticket why refl b holds_here at in
+    park_is here setup history rows time weight attempts live place caller ticket why refl b holds_here at in
     let parked = live_parked attempts ticket (kept_of setup history rows time weight attempts live b).one_each
-        (held_entry old setup history rows time weight attempts live caller ticket is b holds) in
+    (held_entry old setup history rows time weight attempts live caller ticket is b holds) in
     let counted = b.live_is in
     book_more setup history rows time weight attempts live (park_entry caller ticket why) new (Some (Parks ticket)) live' b
     (may_come setup history caller (deed.Park ticket.run why) below (ticket, own) (park_room setup history ticket.run why))

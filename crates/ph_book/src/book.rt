@@ -183,8 +183,7 @@ impl Book {
         ensures entry { OnOk result (self.new ≡ entered self.old (call_entry caller raw)) }
         ensures unchanged { IfErr result (λ back. (back ≡ raw) × (self.new ≡ self.old)) }
     {
-        let Some(weight) =
-            weights::weight_after_call(self.weight, &raw, rows.as_slice(), self.live)
+        let Some(weight) = weights::weight_after_call(self.weight, &raw, rows.as_slice(), self.live)
         else {
             return Err(raw);
         };
@@ -251,11 +250,10 @@ impl Book {
         let live = one_less(self.live);
         let place = self.entries.len() as u64 + 1;
         let attempt = ticket.order().reference;
-        let Ending { reply, rows } =
-            match settled(self.alloc, &self.view, place, attempt, ruling) {
-                Ok(ending) => ending,
-                Err(NoMemory) => return Err(ticket),
-            };
+        let Ending { reply, rows } = match settled(self.alloc, &self.view, place, attempt, ruling) {
+            Ok(ending) => ending,
+            Err(NoMemory) => return Err(ticket),
+        };
         let Some(weight) = weights::weight_after(self.weight, rows.as_slice(), live) else {
             return Err(ticket);
         };

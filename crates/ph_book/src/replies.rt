@@ -81,7 +81,11 @@ fn declined_reply(
         None => nothing_reply(alloc),
         Some(row) => {
             let intent = item_doc(alloc, view, row)?;
-            error_reply(alloc, &ApiError::card_declined(alloc, decline)?, Some(intent))
+            error_reply(
+                alloc,
+                &ApiError::card_declined(alloc, decline)?,
+                Some(intent),
+            )
         }
     }
 }

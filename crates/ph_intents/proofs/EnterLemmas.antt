@@ -82,7 +82,7 @@ latest_before object row last same other =
 pub tells_of : (key : Option (List ℕ)) (at place object : ℕ) (objects : List Row) (sort : EventKind) (subject : Row)
     → latest_of object objects ≡ Some subject → subject.object ≡ object → kind_of subject.item ≡ subject_of sort
     → TellsOf subject (event_row key at objects place (record { sort = sort; object = object }))
-        (record { sort = sort; object = object; key = key })
+    (record { sort = sort; object = object; key = key })
 tells_of key at place object objects sort subject latest same kind = record {
   is = refl;
   account = ap account_of latest;
@@ -114,9 +114,9 @@ told_enters state key entry account object intent sort ready subject follows =
     let room = ready.room in
     let count = more state row in
     let last = event_follows (with_next state row) row news (record { sort = sort; object = object; key = key })
-        (sound_with state row ready.sound follows) (new_stands state row follows)
-        (next_second state row news room (omega arith) refl ready.text) (omega arith)
-        (tells_of key state.time place object (row ∷ []) sort row (latest_alone object row refl) refl subject) in
+    (sound_with state row ready.sound follows) (new_stands state row follows)
+    (next_second state row news room (omega arith) refl ready.text) (omega arith)
+    (tells_of key state.time place object (row ∷ []) sort row (latest_alone object row refl) refl subject) in
     (follows, (last, tt))
 
 -- a version of a payment intent, and an attempt
@@ -130,7 +130,7 @@ attempted_enters state key entry account object intent how ready follows =
     let room = ready.room in
     let count = more state row in
     let last = first_follows (with_next state row) begun
-        (next_second state row begun room (omega arith) refl refl) (omega arith) (λ event is. absurd (cc)) in
+    (next_second state row begun room (omega arith) refl refl) (omega arith) (λ event is. absurd (cc)) in
     (follows, (last, tt))
 
 -- the first version of a payment intent
@@ -161,13 +161,13 @@ created_enters state key entry account intent how ready texts =
     let follows = created_follows state key entry account intent ready texts in
     let sound = sound_with state row ready.sound follows in
     let next = first_follows (with_next state row) begun
-        (next_second state row begun room (omega arith) refl refl) (omega arith) (λ event is. absurd (cc)) in
+    (next_second state row begun room (omega arith) refl refl) (omega arith) (λ event is. absurd (cc)) in
     let apart : begun.object ≡ object → ⊥ = (λ same. omega arith) in
     let last = event_follows (with_next (with_next state row) begun) row news
-        (record { sort = event.IntentCreated; object = object; key = key })
-        (sound_with (with_next state row) begun sound next)
-        (row_at-before row.place (with_next state row).rows (begun ∷ []) row (new_stands state row follows))
-        (next_third state row begun news room (omega arith) refl ready.text) (omega arith)
-        (tells_of key state.time place object (row ∷ begun ∷ []) event.IntentCreated row
-            (latest_before object row begun refl apart) refl refl) in
+    (record { sort = event.IntentCreated; object = object; key = key })
+    (sound_with (with_next state row) begun sound next)
+    (row_at-before row.place (with_next state row).rows (begun ∷ []) row (new_stands state row follows))
+    (next_third state row begun news room (omega arith) refl ready.text) (omega arith)
+    (tells_of key state.time place object (row ∷ begun ∷ []) event.IntentCreated row
+    (latest_before object row begun refl apart) refl refl) in
     (follows, (next, (last, tt)))

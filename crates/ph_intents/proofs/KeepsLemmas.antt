@@ -83,21 +83,21 @@ cancel_keeps state entry account key call ready texts =
     let reason = call.cancellation_reason in
     keeps_at (cancel_of account reason batch) state key account call.id ready.sound
     (λ row intent found.
-        let kept = found_texts state account row intent ready.sound found in
-        let canceled = canceled_intent reason intent in
-        keeps_allowed state key (λ status. adds_told account row.object (canceled status) event.IntentCanceled batch)
-        (next_status intent.status step.Cancel)
-        (λ status. found_told state key entry account row intent (canceled status) event.IntentCanceled ready found refl kept))
+    let kept = found_texts state account row intent ready.sound found in
+    let canceled = canceled_intent reason intent in
+    keeps_allowed state key (λ status. adds_told account row.object (canceled status) event.IntentCanceled batch)
+    (next_status intent.status step.Cancel)
+    (λ status. found_told state key entry account row intent (canceled status) event.IntentCanceled ready found refl kept))
 
 pub capture_keeps : KeepsSound no_texts capture_outcome
 capture_keeps state entry account key call ready texts =
     let batch = batch_after state entry in
     keeps_at (capture_of account call.amount_to_capture batch) state key account call.id ready.sound
     (λ row intent found.
-        let amount = unwrap_or call.amount_to_capture intent.amount_capturable in
-        keeps_allowed state key (capture_amount account amount batch row.object intent)
-        (next_status intent.status step.Capture)
-        (λ status. of_amount row intent found status amount))
+    let amount = unwrap_or call.amount_to_capture intent.amount_capturable in
+    keeps_allowed state key (capture_amount account amount batch row.object intent)
+    (next_status intent.status step.Capture)
+    (λ status. of_amount row intent found status amount))
   where
     of_amount : (row : Row) (intent : Intent) → IsFound state account row intent → (status : IntentStatus) (amount : ℕ)
         → MayBeEntered state key (capture_amount account amount (batch_after state entry) row.object intent status)
@@ -114,11 +114,11 @@ authenticate_keeps state entry account key call ready texts =
     let batch = batch_after state entry in
     keeps_at (authenticate_of account batch) state key account call.id ready.sound
     (λ row intent found.
-        let kept = found_texts state account row intent ready.sound found in
-        let paying = authenticated_intent intent in
-        keeps_allowed state key (λ status. attempted account row.object (paying status) method.Authenticated batch)
-        (next_status intent.status step.Authenticate)
-        (λ status. found_attempted state key entry account row intent (paying status) method.Authenticated ready found kept))
+    let kept = found_texts state account row intent ready.sound found in
+    let paying = authenticated_intent intent in
+    keeps_allowed state key (λ status. attempted account row.object (paying status) method.Authenticated batch)
+    (next_status intent.status step.Authenticate)
+    (λ status. found_attempted state key entry account row intent (paying status) method.Authenticated ready found kept))
 
 -- ---- the calls that change its texts
 
@@ -132,13 +132,13 @@ fail_authentication_keeps state entry account key call ready texts =
     let batch = batch_after state entry in
     keeps_at (fail_of account batch) state key account call.id ready.sound
     (λ row intent found.
-        let kept = found_texts state account row intent ready.sound found in
-        let failed = failed_intent payment_error.NotAuthenticated intent in
-        let sort = event.IntentPaymentFailed in
-        keeps_allowed state key (λ status. adds_told account row.object (failed status) sort batch)
-        (next_status intent.status step.Fail)
-        (λ status. found_told state key entry account row intent (failed status) sort ready found refl
-            (failed_texts intent payment_error.NotAuthenticated status kept)))
+    let kept = found_texts state account row intent ready.sound found in
+    let failed = failed_intent payment_error.NotAuthenticated intent in
+    let sort = event.IntentPaymentFailed in
+    keeps_allowed state key (λ status. adds_told account row.object (failed status) sort batch)
+    (next_status intent.status step.Fail)
+    (λ status. found_told state key entry account row intent (failed status) sort ready found refl
+    (failed_texts intent payment_error.NotAuthenticated status kept)))
 
 -- the texts of a payment intent that a payment method is to pay
 paying_texts : (intent : Intent) (method : PaymentMethod) (status : IntentStatus)
@@ -152,10 +152,10 @@ pub confirm_keeps : KeepsSound confirm_texts confirm_outcome
 confirm_keeps state entry account key call ready texts =
     keeps_at (confirm_of account call.payment_method (batch_after state entry)) state key account call.id ready.sound
     (λ row intent found.
-        let kept = found_texts state account row intent ready.sound found in
-        let own = (front_text (method_text intent.payment_method) (other_texts intent) kept).0 in
-        with_method row intent found kept (option_or call.payment_method intent.payment_method)
-        (either_method call.payment_method intent.payment_method texts own))
+    let kept = found_texts state account row intent ready.sound found in
+    let own = (front_text (method_text intent.payment_method) (other_texts intent) kept).0 in
+    with_method row intent found kept (option_or call.payment_method intent.payment_method)
+    (either_method call.payment_method intent.payment_method texts own))
   where
     with_method : (row : Row) (intent : Intent) → IsFound state account row intent → AreUtf8 (texts_of (item.Intent intent))
         → (method : Option PaymentMethod) → AreUtf8 (with_text (method_text method) [])
@@ -167,7 +167,7 @@ confirm_keeps state entry account key call ready texts =
         (λ status. attempted account row.object (paying status) method.method (batch_after state entry))
         (next_status intent.status step.Confirm)
         (λ status. found_attempted state key entry account row intent (paying status) method.method ready found
-            (paying_texts intent method status named kept))
+        (paying_texts intent method status named kept))
 
 -- the texts of a payment intent after an update
 updated_texts : (call : UpdateIntent) (intent : Intent) (status : IntentStatus) → AreUtf8 (update_texts call)
@@ -195,13 +195,13 @@ update_keeps state entry account key call ready texts =
     let batch = batch_after state entry in
     keeps_at (update_of account call batch) state key account call.id ready.sound
     (λ row intent found.
-        let kept = found_texts state account row intent ready.sound found in
-        let updated = updated_intent call intent in
-        keeps_allowed state key (λ status. update_with account batch row.object (updated status))
-        (next_status intent.status (step_of call))
-        (λ status. with_updated row.object (updated status)
-            (version_follows state key entry account row intent (updated status) ready found
-                (updated_texts call intent status texts kept))))
+    let kept = found_texts state account row intent ready.sound found in
+    let updated = updated_intent call intent in
+    keeps_allowed state key (λ status. update_with account batch row.object (updated status))
+    (next_status intent.status (step_of call))
+    (λ status. with_updated row.object (updated status)
+    (version_follows state key entry account row intent (updated status) ready found
+    (updated_texts call intent status texts kept))))
   where
     with_updated : (object : ℕ) (intent : Intent) → MayFollow state (version_row state entry account object intent)
         → MayBeEntered state key (update_with account (batch_after state entry) object intent)

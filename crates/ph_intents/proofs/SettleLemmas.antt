@@ -96,16 +96,16 @@ settled_enters state key entry how row intent_row attempt intent ready stood fou
     let follows = settled_follows state key entry how row attempt ready stood in
     let sound = sound_with state first ready.sound follows in
     let next = further_follows (with_next state first) intent_row second sound
-        (row_at-before intent_row.place state.rows (first ∷ []) intent_row found.stands)
-        (next_second state first second room (omega arith) refl (settled_texts how intent texts))
-        (record { object = refl; account = refl; kind = ap kind_of (sym found.is) })
-        (λ event is. absurd (cc)) in
+    (row_at-before intent_row.place state.rows (first ∷ []) intent_row found.stands)
+    (next_second state first second room (omega arith) refl (settled_texts how intent texts))
+    (record { object = refl; account = refl; kind = ap kind_of (sym found.is) })
+    (λ event is. absurd (cc)) in
     let last = event_follows (with_next (with_next state first) second) second news
-        (record { sort = sort; object = object; key = key })
-        (sound_with (with_next state first) second sound next) (new_stands (with_next state first) second next)
-        (next_third state first second news room (omega arith) refl ready.text) (omega arith)
-        (tells_of key state.time place object (first ∷ second ∷ []) sort second
-            (latest_behind object first second refl) refl (settled_subject how intent.capture_method)) in
+    (record { sort = sort; object = object; key = key })
+    (sound_with (with_next state first) second sound next) (new_stands (with_next state first) second next)
+    (next_third state first second news room (omega arith) refl ready.text) (omega arith)
+    (tells_of key state.time place object (first ∷ second ∷ []) sort second
+    (latest_behind object first second refl) refl (settled_subject how intent.capture_method)) in
     (follows, (next, (last, tt)))
 
 pub settle_keeps : SettleKeepsSound

@@ -21,18 +21,19 @@ invariant_of-self-2 c =
     let entries = c.push_reserved.ensures.items ∙ ap (λ history. history ++ call_entry c.args.caller c.args.raw ∷ []) c.in-Ok.ensures.entries in
     let weight = c.in-Some.ensures.0 ∙ ap (λ rows. (c.self.inside.weight + raw_weight c.args.raw) + rows_weight rows) c.as_slice.ensures.value in
     let count = ap length c.push_reserved.ensures.items ∙ length-append c.take_room.new.entries.items (call_entry c.args.caller c.args.raw ∷ []) in
-    let spares = c.self.invariant.1.for_replies in
-    (book_is _ _ _ _ _ _ _ _ _ _ _ _
-    (begin_book _ _ _ _ _ _ _ _ c.args.caller c.args.raw c.args.rows.items flight c.self.view_is c.self.invariant.0 c.requires.caller c.requires.room c.requires.rows c.requires.step)
-    entries (c.append_reserved.ensures.rows ∙ ap (λ rows. rows ++ c.args.rows.items) c.in-Ok.ensures.rows)
-    (c.append_reserved.ensures.time ∙ c.in-Ok.ensures.time) weight
-    (c.in-Ok-begin.ensures.after ∙ ap (λ (f : Flight). after c.self.inside.attempts (Begins f)) ticket),
-    record {
-      for_entries = omega (arith, count, c.in-Ok.ensures.entries_room, c.push_reserved.ensures.capacity);
-      for_rows = omega (arith, c.in-Ok.ensures.rows_room, c.append_reserved.ensures.room, c.args.rows.ok.0, c.len-2.ensures);
-      for_replies = omega (arith, c.in-Ok-add_spare.ensures.ok, spares);
-      for_weight = c.in-Some.ensures.1;
-    })
+    let spares = c.self.invariant.1.for_replies in (
+      book_is _ _ _ _ _ _ _ _ _ _ _ _
+          (begin_book _ _ _ _ _ _ _ _ c.args.caller c.args.raw c.args.rows.items flight c.self.view_is c.self.invariant.0 c.requires.caller c.requires.room c.requires.rows c.requires.step)
+          entries (c.append_reserved.ensures.rows ∙ ap (λ rows. rows ++ c.args.rows.items) c.in-Ok.ensures.rows)
+          (c.append_reserved.ensures.time ∙ c.in-Ok.ensures.time) weight
+          (c.in-Ok-begin.ensures.after ∙ ap (λ (f : Flight). after c.self.inside.attempts (Begins f)) ticket),
+      record {
+        for_entries = omega (arith, count, c.in-Ok.ensures.entries_room, c.push_reserved.ensures.capacity);
+        for_rows = omega (arith, c.in-Ok.ensures.rows_room, c.append_reserved.ensures.room, c.args.rows.ok.0, c.len-2.ensures);
+        for_replies = omega (arith, c.in-Ok-add_spare.ensures.ok, spares);
+        for_weight = c.in-Some.ensures.1;
+      },
+    )
 
 pub returns-clause-live : goal.returns-clause-live
 returns-clause-live c =

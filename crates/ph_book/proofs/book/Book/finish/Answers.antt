@@ -23,25 +23,26 @@ invariant_of-self-2 c =
     let room = c.self.invariant.1 in
     let place = ap (λ n. n + 1) (c.len.ensures ∙ c.self.inside.entries.ok.0) in
     let made = ap (λ (o : Order). outcome_rows (settle_outcome view.rows o.reference c.args.ruling (empty_batch (length view.rows) view.time (c.len.result + 1)))) (sym c.order.ensures)
-        ∙ sym c.in-Ok.ensures.rows in
+    ∙ sym c.in-Ok.ensures.rows in
     let entries = c.push_reserved.ensures.items
-        ∙ ap (λ history. history ++ record { caller = c.args.caller; deed = deed.Finish c.run-run.result c.args.ruling } ∷ []) c.in-Ok-take_room.ensures.entries
-        ∙ ap (λ run. c.self.inside.entries.items ++ record { caller = c.args.caller; deed = deed.Finish run c.args.ruling } ∷ []) c.run-run.ensures in
+    ∙ ap (λ history. history ++ record { caller = c.args.caller; deed = deed.Finish c.run-run.result c.args.ruling } ∷ []) c.in-Ok-take_room.ensures.entries
+    ∙ ap (λ run. c.self.inside.entries.items ++ record { caller = c.args.caller; deed = deed.Finish run c.args.ruling } ∷ []) c.run-run.ensures in
     let weight = c.in-Some.ensures.0 ∙ ap (λ rows. c.self.inside.weight + rows_weight rows) c.as_slice.ensures.value in
     let count = ap length c.push_reserved.ensures.items ∙ length-append c.take_room.new.entries.items _ in
     let fewer = c.one_less-live.ensures in
-    let replies = room.for_replies in
-    (book_is _ _ _ _ _ _ _ _ _ _ _ _
-    (finish_book _ _ _ _ _ _ _ _ c.one_less-live.result _ c.args.caller c.args.ticket c.args.ruling c.in-Ok.ending.rows.items c.self.view_is c.self.invariant.0
-    c.requires.own c.requires.caller place made fewer)
-    entries (c.append_reserved.ensures.rows ∙ ap (λ rows. rows ++ c.in-Ok.ending.rows.items) c.in-Ok-take_room.ensures.rows)
-    (c.append_reserved.ensures.time ∙ c.in-Ok-take_room.ensures.time) (omega (arith, weight)) c.settle.ensures.after,
-    record {
-      for_entries = omega (arith, count, c.in-Ok-take_room.ensures.entries_room, c.push_reserved.ensures.capacity);
-      for_rows = omega (arith, c.in-Ok-take_room.ensures.rows_room, c.append_reserved.ensures.room, c.in-Ok.ending.rows.ok.0, c.len-2.ensures);
-      for_replies = omega (arith, fewer, replies, c.take_spare-spare.ensures);
-      for_weight = c.in-Some.ensures.1;
-    })
+    let replies = room.for_replies in (
+      book_is _ _ _ _ _ _ _ _ _ _ _ _
+          (finish_book _ _ _ _ _ _ _ _ c.one_less-live.result _ c.args.caller c.args.ticket c.args.ruling c.in-Ok.ending.rows.items c.self.view_is c.self.invariant.0
+          c.requires.own c.requires.caller place made fewer)
+          entries (c.append_reserved.ensures.rows ∙ ap (λ rows. rows ++ c.in-Ok.ending.rows.items) c.in-Ok-take_room.ensures.rows)
+          (c.append_reserved.ensures.time ∙ c.in-Ok-take_room.ensures.time) (omega (arith, weight)) c.settle.ensures.after,
+      record {
+        for_entries = omega (arith, count, c.in-Ok-take_room.ensures.entries_room, c.push_reserved.ensures.capacity);
+        for_rows = omega (arith, c.in-Ok-take_room.ensures.rows_room, c.append_reserved.ensures.room, c.in-Ok.ending.rows.ok.0, c.len-2.ensures);
+        for_replies = omega (arith, fewer, replies, c.take_spare-spare.ensures);
+        for_weight = c.in-Some.ensures.1;
+      },
+    )
 
 pub returns-clause-said : goal.returns-clause-said
 returns-clause-said c =

@@ -26,23 +26,24 @@ invariant_of-self c =
     let size = ap length made in
     let few = parked.1 in
     let entries = c.push_reserved.ensures.items
-        ∙ ap (λ run. c.self.inside.entries.items ++ record { caller = c.args.caller; deed = deed.Park run c.args.why } ∷ []) c.run-run.ensures in
+    ∙ ap (λ run. c.self.inside.entries.items ++ record { caller = c.args.caller; deed = deed.Park run c.args.why } ∷ []) c.run-run.ensures in
     let count = ap length c.push_reserved.ensures.items ∙ length-append c.self.inside.entries.items _ in
     let fewer = c.one_less-live.ensures in
     let replies = room.for_replies in
     let rows = room.for_rows in
     let places = room.for_entries in
-    let weight = room.for_weight in
-    (book_is _ _ _ _ _ _ _ _ _ _ _ _
-    (park_book _ _ _ _ _ _ _ _ c.one_less-live.result place c.args.caller c.args.ticket c.args.why row c.self.view_is c.self.invariant.0
-    c.requires.own c.requires.caller refl made fewer)
-    entries c.push_row.ensures.rows c.push_row.ensures.time (omega (arith, weighs, size, c.row_weight.ensures)) c.park.ensures.after,
-    record {
-      for_entries = omega (arith, count, places, fewer, c.push_reserved.ensures.capacity);
-      for_rows = omega (arith, rows, fewer, c.push_row.ensures.room);
-      for_replies = omega (arith, fewer, replies, c.take_spare.ensures);
-      for_weight = omega (arith, weight, fewer, few, size, c.row_weight.ensures);
-    })
+    let weight = room.for_weight in (
+      book_is _ _ _ _ _ _ _ _ _ _ _ _
+          (park_book _ _ _ _ _ _ _ _ c.one_less-live.result place c.args.caller c.args.ticket c.args.why row c.self.view_is c.self.invariant.0
+          c.requires.own c.requires.caller refl made fewer)
+          entries c.push_row.ensures.rows c.push_row.ensures.time (omega (arith, weighs, size, c.row_weight.ensures)) c.park.ensures.after,
+      record {
+        for_entries = omega (arith, count, places, fewer, c.push_reserved.ensures.capacity);
+        for_rows = omega (arith, rows, fewer, c.push_row.ensures.room);
+        for_replies = omega (arith, fewer, replies, c.take_spare.ensures);
+        for_weight = omega (arith, weight, fewer, few, size, c.row_weight.ensures);
+      },
+    )
 
 pub returns-clause-said : goal.returns-clause-said
 returns-clause-said c =
