@@ -58,7 +58,7 @@ is_replied old new link counts raw reply r = (
     status = r.status;
     answered = r.answered;
     asked = sym (and_asks-none link.asked);
-    counted = counted-none (record { book = old; link = link; counts = counts });
+    counted = counted-none old new link counts;
     nothing_left_live = live-replied old new raw reply r.entered_once r.said;
   },
   refl,

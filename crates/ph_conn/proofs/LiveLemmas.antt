@@ -97,11 +97,12 @@ gone : (attempts : List Attempt) (flight : Flight) → entry_of attempts flight.
     → without flight.order.reference (attempts ++ Live flight ∷ []) ≡ attempts
 gone [] flight none =
     let own : has_reference flight.order.reference (Live flight) ≡ true = eq-eqb flight.order.reference flight.order.reference refl in rw own refl
-gone (first ∷ attempts) flight none = at (has_reference flight.order.reference first) refl
+gone (first ∷ attempts) flight none = at (gone attempts flight) (has_reference flight.order.reference first) refl
   where
-    at : (test : Bool) → has_reference flight.order.reference first ≡ test → without flight.order.reference (first ∷ attempts ++ Live flight ∷ []) ≡ first ∷ attempts
-    at true e = let no : Some first ≡ None = rw e at none in absurd (cc)
-    at false e = let rest : entry_of attempts flight.order.reference ≡ None = rw e at none in rw e (ap (λ more. first ∷ more) (gone attempts flight rest))
+    at : (entry_of attempts flight.order.reference ≡ None → without flight.order.reference (attempts ++ Live flight ∷ []) ≡ attempts) → (test : Bool)
+        → has_reference flight.order.reference first ≡ test → without flight.order.reference (first ∷ attempts ++ Live flight ∷ []) ≡ first ∷ attempts
+    at more true e = let none_first : Some first ≡ None = rw e at none in absurd (cc)
+    at more false e = rw e (ap (λ rest. first ∷ rest) (more (rw e at none)))
 
 begins-then : (attempts : List Attempt) (flight : Flight) → entry_of attempts flight.order.reference ≡ None
     → without flight.order.reference (after attempts (Begins flight)) ≡ attempts

@@ -6,8 +6,8 @@ use Rattle.ph_base.specs.Counts.{Rose}
 use Rattle.ph_base.specs.declared.acquirer.Why.TheVariants as why
 use Rattle.ph_errors.specs.Table.{error_of}
 use Rattle.ph_bank.specs.declared.asking.Ask.{Ask}
-use Rattle.ph_bank.specs.Links.{and_asks}
-use Rattle.ph_bank.specs.Patiences.{next_count, counted_on}
+use Rattle.ph_bank.specs.Links.{Link, and_asks}
+use Rattle.ph_bank.specs.Patiences.{Granted, next_count, counted_on}
 use Rattle.ph_http.specs.declared.message.Raw.{Raw}
 use Rattle.ph_http.specs.declared.message.Reply.{Reply}
 use Rattle.ph_book.specs.declared.acts.Entry.{Entry}
@@ -15,6 +15,7 @@ use Rattle.ph_book.specs.declared.setup.Setup.{Setup}
 use Rattle.ph_book.specs.Entries.{call_entry}
 use Rattle.ph_book.specs.History.{said_to}
 use Rattle.ph_book.specs.Replies.{park_reply}
+use Rattle.ph_book.specs.State.{BookState}
 use Rattle.ph_conn.specs.Desks.{Desk, Counted, RoseBy}
 use Rattle.ph_conn.specs.Parts.{Ending, Settled, GivenUp, Run, Part, requests_of, entries_at, entries_from, Follows, AllFollow, IsReplyOf, IsReplyTo, AreReplies, AreNoParks, asks_in, asks_of, failures_in, refusals_in, in_run, over_runs, failures, refusals, grants, drives, is_out, AllHadMemory}
 
@@ -128,8 +129,9 @@ counted-push first now last parts part before here = record {
   starts = on-twice _ _ _ _ _ _ (over-push drives parts part) before.starts here.starts;
 }
 
-pub counted-none : (desk : Desk) → Counted desk desk 0 0 0 0
-counted-none desk = record { faults = omega arith; refusals = omega arith; grants = refl; starts = refl }
+pub counted-none : (old new : BookState) (link : Link) (counts : Granted)
+    → Counted (record { book = old; link = link; counts = counts }) (record { book = new; link = link; counts = counts }) 0 0 0 0
+counted-none old new link counts = record { faults = omega arith; refusals = omega arith; grants = refl; starts = refl }
 
 -- ---- want of memory
 
@@ -164,8 +166,8 @@ all-answered (part ∷ parts) (reply ∷ replies) are failed refused =
     all-answered parts replies are.1 (omega (arith, failed)) (omega (arith, refused)))
 
 none-rose : (n before now : ℕ) → RoseBy n before now → (Rose before now → ⊥) → n ≡ 0
-none-rose zero before now rose no = refl
-none-rose (suc n) before now rose no = absurd (no (omega (arith, rose)))
+none-rose zero before now rose stands = refl
+none-rose (suc n) before now rose stands = absurd (stands (omega (arith, rose)))
 
 -- where neither the link's faults nor the patience's refusals rose, no reply is to a run that was given up for them
 pub completes : (first last : Desk) (parts : List Part) (replies : List Reply) → AreReplies parts replies

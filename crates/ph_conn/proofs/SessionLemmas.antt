@@ -69,7 +69,7 @@ work-nothing desk legal = record {
   answered = sym (append-nil (replies_of desk.book.setup desk.book.history));
   replied = tt;
   asked = sym (and_asks-none desk.link.asked);
-  counted = counted-none desk;
+  counted = counted-none desk.book desk.book desk.link desk.counts;
   nothing_left_live = refl;
 }
 
