@@ -41,7 +41,7 @@ use Rattle.ph_intents.specs.Authenticate.{authenticate_of, authenticated_intent,
 use Rattle.ph_intents.specs.Cancel.{cancel_of, canceled_intent}
 use Rattle.ph_intents.specs.Capture.{capture_amount, capture_of, received_intent}
 use Rattle.ph_intents.specs.Confirm.{confirm_of, confirm_with, paying_intent}
-use Rattle.ph_intents.specs.Create.{first_status, with_intent, create_by, create_outcome, create_confirmed_outcome, created_with, new_intent}
+use Rattle.ph_intents.specs.Create.{first_status, create_by, create_outcome, create_confirmed_outcome, created_with, new_intent}
 use Rattle.ph_intents.specs.Finding.{intent_named}
 use Rattle.ph_intents.specs.Refusals.{if_allowed, intent_in, invalid_value, made_of, made_of_row, made_at, no_such_intent, unexpected_state}
 use Rattle.ph_intents.specs.Statuses.{next_status}
@@ -183,7 +183,7 @@ create_fit rows count now place account c =
 create_with_fit : (count now place account : ℕ) (intent : Intent) (method : Method) → IsFit count (created_with account intent method (empty_batch count now place))
 create_with_fit count now place account intent method = (
   record { began = refl; placed = (omega arith, (omega arith, tt)); few = omega arith },
-  attempt_asked account (count + 0 + 1) intent.amount intent.currency method (with_intent account intent (empty_batch count now place)),
+  attempt_asked account (count + 0 + 1) intent.amount intent.currency method (with_version account (count + 0 + 1) intent (empty_batch count now place)),
 )
 
 create_by_fit : (count now place account : ℕ) (c : CreateIntent) (method : Option PaymentMethod) → IsFit count (create_by account c (empty_batch count now place) method)

@@ -1,4 +1,5 @@
 use crate::{Closed, Stop, TalkError, TalkRules, serve_none, serve_solo};
+use ph_bank::{SimAcquirer, Turns};
 use ph_base::{Bytes, NoMemory};
 use ph_book::{Book, Setup};
 use ph_io::{MemSink, MemSource};
@@ -75,7 +76,18 @@ fn session(
 ) -> Result<(Result<Closed, TalkError>, Vec<u8>), NoMemory> {
     let mut input = MemSource::new(joined(alloc, parts)?, 4096, Vec::new(alloc));
     let mut output = MemSink::new(alloc, 4096, Vec::new(alloc));
-    let ended = serve_solo(alloc, book, &mut input, &mut output, &TalkRules { limit });
+    let mut link = SimAcquirer::new();
+    let mut patience = Turns::new(1000);
+    let rules = TalkRules { limit };
+    let ended = serve_solo(
+        alloc,
+        book,
+        &mut input,
+        &mut output,
+        &mut link,
+        &mut patience,
+        &rules,
+    );
     Ok((ended, Vec::from_slice(alloc, output.bytes())?))
 }
 
