@@ -1,6 +1,7 @@
 //! Whole runs: words, the input's bytes, the output's bytes and the status.
 
 use crate::run_once;
+use ph_bank::{SimAcquirer, Turns};
 use ph_base::{Bytes, NoMemory};
 use ph_io::{MemSink, MemSource};
 use std::alloc::Global;
@@ -156,7 +157,16 @@ fn run(
     let writes = Vec::from_slice(alloc, failing_writes)?;
     let mut input = MemSource::new(joined(alloc, parts)?, most.max(1), reads);
     let mut output = MemSink::new(alloc, 4096, writes);
-    let status = run_once(alloc, list.as_slice(), &mut input, &mut output);
+    let mut link = SimAcquirer::new();
+    let mut patience = Turns::new(patience);
+    let status = run_once(
+        alloc,
+        list.as_slice(),
+        &mut input,
+        &mut output,
+        &mut link,
+        &mut patience,
+    );
     Ok((status, Vec::from_slice(alloc, output.bytes())?))
 }
 
