@@ -1,6 +1,8 @@
 //! Whole runs: words, the input's bytes, the output's bytes and the status.
 
-use crate::run_once;
+mod acquirer;
+
+use crate::{Plan, plan, run_once};
 use ph_bank::{SimAcquirer, Turns};
 use ph_base::{Bytes, NoMemory};
 use ph_io::{MemSink, MemSource};
@@ -139,6 +141,14 @@ fn joined(alloc: Global, parts: &[&[u8]]) -> Result<Vec<u8>, NoMemory> {
     Ok(all)
 }
 
+// How many further polls the words grant.
+fn turns(words: &[Bytes]) -> u64 {
+    match plan(words) {
+        Plan::Once { patience } => u64::from(patience),
+        Plan::Usage => 0,
+    }
+}
+
 // Runs the words on these parts, in reads of at most so many bytes, with the failing reads and writes of
 // these numbers, from 0; answers the status and what was written.
 fn run(
@@ -158,7 +168,7 @@ fn run(
     let mut input = MemSource::new(joined(alloc, parts)?, most.max(1), reads);
     let mut output = MemSink::new(alloc, 4096, writes);
     let mut link = SimAcquirer::new();
-    let mut patience = Turns::new(patience);
+    let mut patience = Turns::new(turns(list.as_slice()));
     let status = run_once(
         alloc,
         list.as_slice(),
