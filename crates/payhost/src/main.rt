@@ -1,6 +1,7 @@
 //! The program: it hands the words of the command line, standard input and standard output to the top call, with the
 //! simulated acquirer and the patience that the words name.
 #![tactic(auto)]
+
 ghost use Rattle.std.specs.Prelude.{◌≡◌, ℕ};
 ghost use Rattle.ph_host.specs.Plans.{plan_of};
 

@@ -1,5 +1,5 @@
 -- A request that is entered, with its run and its reply.
-use Rattle.std.proofs.Common.{◌≡◌, ◌≢◌, ℕ, ◌+◌, ◌≤◌, ◌++◌, ◌∷◌, ◌∙◌, [], Bool, true, false, length, List, Option, Some, None, IsTrue, refl, sym, ap, subst, append_assoc, arith}
+use Rattle.std.proofs.Common.{◌≡◌, ℕ, ◌+◌, ◌≤◌, ◌++◌, ◌∷◌, ◌∙◌, [], length, Some, None, refl, sym, ap, subst, append_assoc, arith}
 use Rattle.std.proofs.lemmas.List.{append-nil}
 use Rattle.ph_base.specs.Counts.{Rose}
 use Rattle.ph_base.specs.declared.acquirer.Why.TheVariants as why
@@ -7,22 +7,20 @@ use Rattle.ph_attempts.specs.declared.flights.Flight.{Flight}
 use Rattle.ph_rows.specs.declared.orders.Order.{Order}
 use Rattle.ph_http.specs.declared.message.Raw.{Raw}
 use Rattle.ph_http.specs.declared.message.Reply.{Reply}
-use Rattle.ph_http.specs.Replies.{is_status}
 use Rattle.ph_bank.specs.declared.driving.Driven.{Driven}
 use Rattle.ph_bank.specs.declared.driving.Driven.TheVariants as driven
 use Rattle.ph_bank.specs.Drives.{Drives}
 use Rattle.ph_bank.specs.Links.{Link}
-use Rattle.ph_bank.specs.Patiences.{Granted, counted_on, next_count}
+use Rattle.ph_bank.specs.Patiences.{Granted, next_count}
 use Rattle.ph_book.specs.declared.acts.Answer.TheVariants as answer
 use Rattle.ph_book.specs.Answers.{Says}
 use Rattle.ph_book.specs.Entries.{call_entry}
-use Rattle.ph_book.specs.History.{replies_of, said_to}
-use Rattle.ph_book.specs.Legal.{IsLegal}
+use Rattle.ph_book.specs.History.{replies_of}
 use Rattle.ph_book.specs.Replies.{Said, Replies, Waits, Silence, park_reply}
 use Rattle.ph_book.specs.State.{BookState, entered}
 use Rattle.ph_conn.specs.Answers.{Replied, Waiting, Ended, Settles, Entered, Answers}
-use Rattle.ph_conn.specs.Desks.{Desk, Counted, RoseBy}
-use Rattle.ph_conn.specs.Parts.{Ending, Settled, GivenUp, Run, EndsBy, Follows, end_entry, failures_in, refusals_in}
+use Rattle.ph_conn.specs.Desks.{Desk, RoseBy}
+use Rattle.ph_conn.specs.Parts.{Ending, Settled, GivenUp, EndsBy, Follows, end_entry, failures_in, refusals_in}
 use Rattle.ph_conn.specs.declared.answers.Outcome.{Outcome}
 use Rattle.ph_conn.specs.declared.answers.Outcome.TheVariants as outcome
 use Rattle.ph_conn.proofs.LiveLemmas.{live-replied, live-ended}
@@ -85,7 +83,7 @@ pub is_driven : (old middle new : BookState) (link link' : Link) (counts counts'
     → counts.refusals ≤ counts'.refusals → (end ≡ driven.Failed → Rose link.faults link'.faults) → (end ≡ driven.GaveUp → Rose counts.refusals counts'.refusals)
     → Ended middle new ticket ending reply → EndsBy end ending
     → Entered (record { book = old; link = link; counts = counts }) (record { book = new; link = link'; counts = counts' }) raw
-        (Some (record { order = ticket.order; grants = d.polls; last = d.last; driven = end; ending = ending })) reply
+    (Some (record { order = ticket.order; grants = d.polls; last = d.last; driven = end; ending = ending })) reply
 is_driven old middle new link link' counts counts' raw ticket end ending reply w d starts refusals failed gave_up e ends =
     let first : Desk = record { book = old; link = link; counts = counts } in
     let last : Desk = record { book = new; link = link'; counts = counts' } in
@@ -112,13 +110,15 @@ pub settles : (old middle new : BookState) (link link' : Link) (counts counts' :
     → counts.refusals ≤ counts'.refusals → (end ≡ driven.Failed → Rose link.faults link'.faults) → (end ≡ driven.GaveUp → Rose counts.refusals counts'.refusals)
     → Settles middle new ticket end what
     → Answers (record { book = old; link = link; counts = counts }) (record { book = new; link = link'; counts = counts' }) raw what
-settles old middle new link link' counts counts' raw ticket end (outcome.Reply reply) w d starts refusals failed gave_up s =
-    (Some (record { order = ticket.order; grants = d.polls; last = d.last; driven = end; ending = s.0 }),
-    is_driven old middle new link link' counts counts' raw ticket end s.0 reply w d starts refusals failed gave_up s.1 s.2,
-    s.3)
-settles old middle new link link' counts counts' raw ticket end outcome.Parked w d starts refusals failed gave_up s =
-    (Some (record { order = ticket.order; grants = d.polls; last = d.last; driven = end; ending = GivenUp why.NoMemory }),
-    is_driven old middle new link link' counts counts' raw ticket end (GivenUp why.NoMemory) (park_reply why.NoMemory) w d starts refusals failed gave_up s.0 s.1,
-    refl)
+settles old middle new link link' counts counts' raw ticket end (outcome.Reply reply) w d starts refusals failed gave_up s = (
+  Some (record { order = ticket.order; grants = d.polls; last = d.last; driven = end; ending = s.0 }),
+  is_driven old middle new link link' counts counts' raw ticket end s.0 reply w d starts refusals failed gave_up s.1 s.2,
+  s.3,
+)
+settles old middle new link link' counts counts' raw ticket end outcome.Parked w d starts refusals failed gave_up s = (
+  Some (record { order = ticket.order; grants = d.polls; last = d.last; driven = end; ending = GivenUp why.NoMemory }),
+  is_driven old middle new link link' counts counts' raw ticket end (GivenUp why.NoMemory) (park_reply why.NoMemory) w d starts refusals failed gave_up s.0 s.1,
+  refl,
+)
 settles old middle new link link' counts counts' raw ticket end outcome.Full w d starts refusals failed gave_up s = absurd s
 settles old middle new link link' counts counts' raw ticket end outcome.NoMemory w d starts refusals failed gave_up s = absurd s

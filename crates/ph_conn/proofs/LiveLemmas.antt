@@ -1,5 +1,5 @@
 -- The live runs of a book after a request.
-use Rattle.std.proofs.Common.{◌≡◌, ℕ, ◌+◌, ◌<◌, ◌==◌, ◌∷◌, ◌++◌, Bool, true, false, List, [], length, Option, Some, None, refl, sym, ap, ◌∙◌, subst, arith}
+use Rattle.std.proofs.Common.{◌≡◌, ℕ, ◌+◌, ◌∷◌, ◌++◌, Bool, true, false, List, [], length, Option, Some, None, refl, sym, ap, ◌∙◌, subst}
 use Rattle.std.proofs.lemmas.Bool.{eq-eqb}
 use Rattle.std.proofs.lemmas.List.{append-nil}
 use Rattle.ph_attempts.specs.declared.flights.Flight.{Flight}
@@ -7,8 +7,6 @@ use Rattle.ph_attempts.specs.declared.flights.Attempt.{Attempt}
 use Rattle.ph_attempts.specs.declared.flights.Attempt.TheVariants.{Live, Parked}
 use Rattle.ph_attempts.specs.Attempts.{Step, Begins, Parks, Settles, after, entry_of, has_reference, without}
 use Rattle.ph_attempts.proofs.EntryLemmas.{without-none}
-use Rattle.ph_base.specs.declared.acquirer.Ruling.{Ruling}
-use Rattle.ph_base.specs.declared.acquirer.Why.{Why}
 use Rattle.ph_rows.specs.declared.orders.Order.{Order}
 use Rattle.ph_rows.specs.declared.rows.Row.{Row}
 use Rattle.ph_rows.specs.Batches.{BatchState}
@@ -18,11 +16,10 @@ use Rattle.ph_calls.specs.Outcomes.{Outcome, Refuses, Adds}
 use Rattle.ph_intents.specs.Attempts.{begun}
 use Rattle.ph_book.specs.declared.setup.Setup.{Setup}
 use Rattle.ph_book.specs.declared.acts.Entry.{Entry}
-use Rattle.ph_book.specs.declared.acts.Deed.TheVariants as deed
 use Rattle.ph_book.specs.Calls.{called_at}
 use Rattle.ph_book.specs.Entries.{call_entry}
-use Rattle.ph_book.specs.History.{Effect, Happening, added_effect, attempts_after, attempts_of, call_effect, effect_after, effect_to, finish_effect, happening_of, park_effect, past_of, rows_after, rows_of, said_to, time_after}
-use Rattle.ph_book.specs.Replies.{Said, Replies, Waits}
+use Rattle.ph_book.specs.History.{Effect, added_effect, attempts_after, attempts_of, call_effect, effect_after, effect_to, finish_effect, happening_of, park_effect, past_of, rows_after, rows_of, said_to, time_after}
+use Rattle.ph_book.specs.Replies.{Replies, Waits}
 use Rattle.ph_book.specs.Runs.{after_step, live_of, run_in}
 use Rattle.ph_book.specs.State.{BookState, entered}
 use Rattle.ph_book.specs.Tickets.{Holds}
@@ -81,10 +78,10 @@ fresh setup history entry flight step =
     let past = past_of setup history in
     let rows = rows_after setup past in
     let kept : AreKept (length past) (length rows) (attempts_after past) =
-        subst (λ n. AreKept n (length rows) (attempts_after past)) (sym (length_past setup history)) (history_counted setup history).kept in
+    subst (λ n. AreKept n (length rows) (attempts_after past)) (sym (length_past setup history)) (history_counted setup history).kept in
     let orderly = effect_orderly setup rows (time_after setup past) (length past) entry.caller (attempts_after past) entry.deed kept in
     let next : IsNext (length past) (length rows) (length rows + length (effect_after setup past entry).rows) (attempts_after past) (Some (Begins flight)) =
-        subst (IsNext (length past) (length rows) (length rows + length (effect_after setup past entry).rows) (attempts_after past)) step orderly.next in
+    subst (IsNext (length past) (length rows) (length rows + length (effect_after setup past entry).rows) (attempts_after past)) step orderly.next in
     none_above (length past) (length rows) flight.order.reference (attempts_after past) kept.below next.1
 
 live-push : (attempts : List Attempt) (order : Order) → live_of (attempts ++ Parked order ∷ []) ≡ live_of attempts
@@ -142,12 +139,12 @@ live-ended old middle new raw ticket ending is said run holds ends =
     let attempts = attempts_of old.setup old.history in
     let flight : Flight = record { caller = 0; run = length old.history + 1; order = ticket.order } in
     let step : (effect_to old.setup old.history (call_entry 0 raw)).step ≡ Some (Begins ticket) =
-        (effect-said old.setup old.history raw).1 ticket.order said ∙ ap (λ (f : Flight). Some (Begins f)) (sym run) in
+    (effect-said old.setup old.history raw).1 ticket.order said ∙ ap (λ (f : Flight). Some (Begins f)) (sym run) in
     let begun_is : attempts_of middle.setup middle.history ≡ after attempts (Begins ticket) =
-        ap (λ (b : BookState). attempts_of b.setup b.history) is ∙ attempts-grow old.setup old.history (call_entry 0 raw)
-        ∙ ap (after_step attempts) step in
+    ap (λ (b : BookState). attempts_of b.setup b.history) is ∙ attempts-grow old.setup old.history (call_entry 0 raw)
+    ∙ ap (after_step attempts) step in
     let ended_is : attempts_of new.setup new.history ≡ after (after attempts (Begins ticket)) (ends_by ending ticket) =
-        ap (λ (b : BookState). attempts_of b.setup b.history) ends ∙ attempts-grow middle.setup middle.history (end_entry ticket.run ending)
-        ∙ ap (after_step (attempts_of middle.setup middle.history)) (step-ends middle.setup middle.history ticket ending holds)
-        ∙ ap (λ runs. after runs (ends_by ending ticket)) begun_is in
+    ap (λ (b : BookState). attempts_of b.setup b.history) ends ∙ attempts-grow middle.setup middle.history (end_entry ticket.run ending)
+    ∙ ap (after_step (attempts_of middle.setup middle.history)) (step-ends middle.setup middle.history ticket ending holds)
+    ∙ ap (λ runs. after runs (ends_by ending ticket)) begun_is in
     ap live_of ended_is ∙ live-after attempts ticket ending (fresh old.setup old.history (call_entry 0 raw) ticket step)

@@ -1,5 +1,5 @@
 -- Parts of a session, one more behind others.
-use Rattle.std.proofs.Common.{◌≡◌, ◌≢◌, ℕ, zero, suc, ◌+◌, ◌∷◌, ◌++◌, Bool, true, false, List, [], length, map, Option, Some, None, refl, sym, ap, ◌∙◌, subst, append_assoc, arith}
+use Rattle.std.proofs.Common.{◌≡◌, ◌≢◌, ℕ, zero, suc, ◌+◌, ◌∷◌, ◌++◌, false, List, [], length, Option, Some, None, refl, sym, ap, ◌∙◌, subst, append_assoc, arith}
 use Rattle.std.proofs.lemmas.List.{append-nil, length-append, map-append}
 use Rattle.std.proofs.lemmas.Grind.{flat_map-append}
 use Rattle.ph_base.specs.Counts.{Rose}
@@ -58,8 +58,8 @@ follow-push setup first now (part' ∷ parts) part all is last =
     let joined = length-append first here in
     let same : (length first + 1) + length here ≡ length (first ++ here) + 1 = omega (arith, joined) in
     let next : now ≡ (first ++ here) ++ entries_from (length (first ++ here) + 1) parts =
-        is ∙ sym (append_assoc first here (entries_from ((length first + 1) + length here) parts))
-        ∙ ap (λ n. (first ++ here) ++ entries_from n parts) same in
+    is ∙ sym (append_assoc first here (entries_from ((length first + 1) + length here) parts))
+    ∙ ap (λ n. (first ++ here) ++ entries_from n parts) same in
     (all.0, follow-push setup (first ++ here) now parts part all.1 next last)
 
 -- ---- requests, replies and asks
@@ -161,9 +161,10 @@ all-answered : (parts : List Part) (replies : List Reply) → AreReplies parts r
 all-answered [] [] are failed refused = tt
 all-answered [] (reply ∷ replies) are failed refused = absurd are
 all-answered (part ∷ parts) [] are failed refused = absurd are
-all-answered (part ∷ parts) (reply ∷ replies) are failed refused =
-    (run-answered part.run reply are.0 (omega (arith, failed)) (omega (arith, refused)),
-    all-answered parts replies are.1 (omega (arith, failed)) (omega (arith, refused)))
+all-answered (part ∷ parts) (reply ∷ replies) are failed refused = (
+  run-answered part.run reply are.0 (omega (arith, failed)) (omega (arith, refused)),
+  all-answered parts replies are.1 (omega (arith, failed)) (omega (arith, refused)),
+)
 
 none-rose : (n before now : ℕ) → RoseBy n before now → (Rose before now → ⊥) → n ≡ 0
 none-rose zero before now rose stands = refl

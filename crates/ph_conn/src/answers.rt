@@ -103,12 +103,16 @@ fn finish(book: &mut Book, ticket: Ticket, ruling: Ruling) -> Result<Reply, Tick
 {
     match book.apply(0, Act::Finish(ticket, ruling)) {
         Ok(answer) => {
-            let Answer::Reply(reply) = answer else { unreachable!() };
+            let Answer::Reply(reply) = answer else {
+                unreachable!()
+            };
             let _ = book.history();
             Ok(reply)
         }
         Err((act, _)) => {
-            let Act::Finish(ticket, _) = act else { unreachable!() };
+            let Act::Finish(ticket, _) = act else {
+                unreachable!()
+            };
             Err(ticket)
         }
     }
@@ -121,7 +125,9 @@ fn park(book: &mut Book, ticket: Ticket, why: Why) -> Reply
 {
     let entered = book.apply(0, Act::Park(ticket, why));
     let Ok(answer) = entered else { unreachable!() };
-    let Answer::Reply(reply) = answer else { unreachable!() };
+    let Answer::Reply(reply) = answer else {
+        unreachable!()
+    };
     let _ = book.history();
     reply
 }

@@ -231,10 +231,12 @@ fn a_full_book_of_runs(rt: HostRuntime) -> Result<(), Fail> {
         joined(alloc, &[SUCCEEDED, HISTORY_FULL])?.as_slice()
     );
     assert_eq!(rt; book.history().len(), 2);
-    assert!(rt; book
-        .history()
-        .get(1)
-        .is_some_and(|end| matches!(end.deed, Deed::Finish(1, Ruling::Approved))));
+    assert!(rt;
+        book.history().get(1).is_some_and(|end| matches!(
+            end.deed,
+            Deed::Finish(1, Ruling::Approved)
+        ))
+    );
     Ok(())
 }
 
@@ -243,7 +245,11 @@ fn a_full_book_of_runs(rt: HostRuntime) -> Result<(), Fail> {
 fn a_run_given_up_at_the_limit(rt: HostRuntime) -> Result<(), Fail> {
     let alloc = rt.alloc();
     let mut book = book(alloc, 100)?;
-    let mut input = MemSource::new(joined(alloc, &[CREATE_SLOW, CREATE])?, 4096, Vec::new(alloc));
+    let mut input = MemSource::new(
+        joined(alloc, &[CREATE_SLOW, CREATE])?,
+        4096,
+        Vec::new(alloc),
+    );
     let mut output = MemSink::new(alloc, 4096, Vec::new(alloc));
     let mut link = SimAcquirer::new();
     let mut patience = Turns::new(2);
@@ -266,9 +272,10 @@ fn a_run_given_up_at_the_limit(rt: HostRuntime) -> Result<(), Fail> {
     );
     assert_eq!(rt; output.bytes(), PENDING_LAST);
     assert_eq!(rt; book.history().len(), 2);
-    assert!(rt; book
-        .history()
-        .get(1)
-        .is_some_and(|end| matches!(end.deed, Deed::Park(1, Why::Pending))));
+    assert!(rt;
+        book.history()
+            .get(1)
+            .is_some_and(|end| matches!(end.deed, Deed::Park(1, Why::Pending)))
+    );
     Ok(())
 }
