@@ -1,5 +1,5 @@
 -- A request that is entered, with its run and its reply.
-use Rattle.std.proofs.Common.{◌≡◌, ◌≢◌, ℕ, ◌+◌, ◌≤◌, ◌++◌, ◌∷◌, ◌∙◌, [], Bool, true, false, length, List, Option, Some, None, IsTrue, refl, sym, ap, subst, append_assoc, arith}
+use Rattle.std.proofs.Common.{◌≡◌, ℕ, ◌+◌, ◌≤◌, ◌++◌, ◌∷◌, ◌∙◌, [], length, Some, None, refl, sym, ap, subst, append_assoc, arith}
 use Rattle.std.proofs.lemmas.List.{append-nil}
 use Rattle.ph_base.specs.Counts.{Rose}
 use Rattle.ph_base.specs.declared.acquirer.Why.TheVariants as why
@@ -7,22 +7,20 @@ use Rattle.ph_attempts.specs.declared.flights.Flight.{Flight}
 use Rattle.ph_rows.specs.declared.orders.Order.{Order}
 use Rattle.ph_http.specs.declared.message.Raw.{Raw}
 use Rattle.ph_http.specs.declared.message.Reply.{Reply}
-use Rattle.ph_http.specs.Replies.{is_status}
 use Rattle.ph_bank.specs.declared.driving.Driven.{Driven}
 use Rattle.ph_bank.specs.declared.driving.Driven.TheVariants as driven
 use Rattle.ph_bank.specs.Drives.{Drives}
 use Rattle.ph_bank.specs.Links.{Link}
-use Rattle.ph_bank.specs.Patiences.{Granted, counted_on, next_count}
+use Rattle.ph_bank.specs.Patiences.{Granted, next_count}
 use Rattle.ph_book.specs.declared.acts.Answer.TheVariants as answer
 use Rattle.ph_book.specs.Answers.{Says}
 use Rattle.ph_book.specs.Entries.{call_entry}
-use Rattle.ph_book.specs.History.{replies_of, said_to}
-use Rattle.ph_book.specs.Legal.{IsLegal}
+use Rattle.ph_book.specs.History.{replies_of}
 use Rattle.ph_book.specs.Replies.{Said, Replies, Waits, Silence, park_reply}
 use Rattle.ph_book.specs.State.{BookState, entered}
 use Rattle.ph_conn.specs.Answers.{Replied, Waiting, Ended, Settles, Entered, Answers}
-use Rattle.ph_conn.specs.Desks.{Desk, Counted, RoseBy}
-use Rattle.ph_conn.specs.Parts.{Ending, Settled, GivenUp, Run, EndsBy, Follows, end_entry, failures_in, refusals_in}
+use Rattle.ph_conn.specs.Desks.{Desk, RoseBy}
+use Rattle.ph_conn.specs.Parts.{Ending, Settled, GivenUp, EndsBy, Follows, end_entry, failures_in, refusals_in}
 use Rattle.ph_conn.specs.declared.answers.Outcome.{Outcome}
 use Rattle.ph_conn.specs.declared.answers.Outcome.TheVariants as outcome
 use Rattle.ph_conn.proofs.LiveLemmas.{live-replied, live-ended}

@@ -1,5 +1,5 @@
 -- The live runs of a book after a request.
-use Rattle.std.proofs.Common.{◌≡◌, ℕ, ◌+◌, ◌<◌, ◌==◌, ◌∷◌, ◌++◌, Bool, true, false, List, [], length, Option, Some, None, refl, sym, ap, ◌∙◌, subst, arith}
+use Rattle.std.proofs.Common.{◌≡◌, ℕ, ◌+◌, ◌∷◌, ◌++◌, Bool, true, false, List, [], length, Option, Some, None, refl, sym, ap, ◌∙◌, subst}
 use Rattle.std.proofs.lemmas.Bool.{eq-eqb}
 use Rattle.std.proofs.lemmas.List.{append-nil}
 use Rattle.ph_attempts.specs.declared.flights.Flight.{Flight}
@@ -7,8 +7,6 @@ use Rattle.ph_attempts.specs.declared.flights.Attempt.{Attempt}
 use Rattle.ph_attempts.specs.declared.flights.Attempt.TheVariants.{Live, Parked}
 use Rattle.ph_attempts.specs.Attempts.{Step, Begins, Parks, Settles, after, entry_of, has_reference, without}
 use Rattle.ph_attempts.proofs.EntryLemmas.{without-none}
-use Rattle.ph_base.specs.declared.acquirer.Ruling.{Ruling}
-use Rattle.ph_base.specs.declared.acquirer.Why.{Why}
 use Rattle.ph_rows.specs.declared.orders.Order.{Order}
 use Rattle.ph_rows.specs.declared.rows.Row.{Row}
 use Rattle.ph_rows.specs.Batches.{BatchState}
@@ -18,11 +16,10 @@ use Rattle.ph_calls.specs.Outcomes.{Outcome, Refuses, Adds}
 use Rattle.ph_intents.specs.Attempts.{begun}
 use Rattle.ph_book.specs.declared.setup.Setup.{Setup}
 use Rattle.ph_book.specs.declared.acts.Entry.{Entry}
-use Rattle.ph_book.specs.declared.acts.Deed.TheVariants as deed
 use Rattle.ph_book.specs.Calls.{called_at}
 use Rattle.ph_book.specs.Entries.{call_entry}
-use Rattle.ph_book.specs.History.{Effect, Happening, added_effect, attempts_after, attempts_of, call_effect, effect_after, effect_to, finish_effect, happening_of, park_effect, past_of, rows_after, rows_of, said_to, time_after}
-use Rattle.ph_book.specs.Replies.{Said, Replies, Waits}
+use Rattle.ph_book.specs.History.{Effect, added_effect, attempts_after, attempts_of, call_effect, effect_after, effect_to, finish_effect, happening_of, park_effect, past_of, rows_after, rows_of, said_to, time_after}
+use Rattle.ph_book.specs.Replies.{Replies, Waits}
 use Rattle.ph_book.specs.Runs.{after_step, live_of, run_in}
 use Rattle.ph_book.specs.State.{BookState, entered}
 use Rattle.ph_book.specs.Tickets.{Holds}

@@ -412,7 +412,7 @@ fn options_of_stdio(rt: HostRuntime) -> Result<(), Fail> {
 #[test]
 fn words_of_no_plan(rt: HostRuntime) -> Result<(), Fail> {
     let alloc = rt.alloc();
-    let words: [&[&[u8]]; 15] = [
+    let words: [&[&[u8]]; 18] = [
         &[],
         &[b"serve"],
         &[b"STDIO"],
@@ -428,6 +428,9 @@ fn words_of_no_plan(rt: HostRuntime) -> Result<(), Fail> {
         &[b"stdio", b"--clock", b"253402300800"],
         &[b"stdio", b"--clock", b"-1"],
         &[b"stdio", b"--clock", b"0", b"--clock", b"0"],
+        &[b"stdio", b"--patience"],
+        &[b"stdio", b"--patience", b"1000001"],
+        &[b"stdio", b"--patience", b"+1"],
     ];
     for list in words {
         let (status, written) = run(alloc, list, &[CREATE], 4096, &[], &[])?;

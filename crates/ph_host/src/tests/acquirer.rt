@@ -93,8 +93,24 @@ const DECLINED: &[u8] =
 #[test]
 fn a_checkout(rt: HostRuntime) -> Result<(), Fail> {
     let alloc = rt.alloc();
-    let requests: &[&[u8]] = &[CREATE_TO_CAPTURE, CONFIRM_CHALLENGED, AUTHENTICATE, UPDATE, CAPTURE, CANCEL, RETRIEVE];
-    let replies: &[&[u8]] = &[DECLINED_TO_CAPTURE, CHALLENGED, AUTHENTICATED, UPDATED, CAPTURED, UNEXPECTED_STATE, CAPTURED];
+    let requests: &[&[u8]] = &[
+        CREATE_TO_CAPTURE,
+        CONFIRM_CHALLENGED,
+        AUTHENTICATE,
+        UPDATE,
+        CAPTURE,
+        CANCEL,
+        RETRIEVE,
+    ];
+    let replies: &[&[u8]] = &[
+        DECLINED_TO_CAPTURE,
+        CHALLENGED,
+        AUTHENTICATED,
+        UPDATED,
+        CAPTURED,
+        UNEXPECTED_STATE,
+        CAPTURED,
+    ];
     let (status, written) = run(alloc, STDIO, requests, 4096, &[], &[])?;
     assert_eq!(rt; status, 0);
     assert_eq!(rt; written.as_slice(), joined(alloc, replies)?.as_slice());
@@ -107,18 +123,57 @@ fn a_checkout(rt: HostRuntime) -> Result<(), Fail> {
 fn sessions_that_ask(rt: HostRuntime) -> Result<(), Fail> {
     let alloc = rt.alloc();
     let sessions: [(&str, &[&[u8]], &[&[u8]], &[&[u8]]); 7] = [
-        ("three pending answers, two further polls", &[b"stdio", b"--patience", b"2"], &[CREATE_SLOW, RETRIEVE], &[PENDING, SLOW_PROCESSING]),
-        ("three pending answers, three further polls", &[b"stdio", b"--patience", b"3"], &[CREATE_SLOW, RETRIEVE], &[SLOW_SUCCEEDED, SLOW_SUCCEEDED]),
-        ("the same with leading zeros", &[b"stdio", b"--patience", b"0003"], &[CREATE_SLOW], &[SLOW_SUCCEEDED]),
-        ("three pending answers, 1,000 further polls", STDIO, &[CREATE_SLOW], &[SLOW_SUCCEEDED]),
-        ("a link that fails", STDIO, &[CREATE_LOST, CONFIRM_VISA, RETRIEVE], &[FAILED, UNEXPECTED_STATE, LOST_PROCESSING]),
-        ("a customer who doesn't authenticate", STDIO, &[CREATE_CHALLENGED, FAIL_TO_AUTHENTICATE, CONFIRM_VISA], &[CHALLENGED_AT_ONCE, NOT_AUTHENTICATED, SUCCEEDED]),
-        ("a decline and another card", STDIO, &[CREATE_DECLINED, CONFIRM_VISA], &[DECLINED, SUCCEEDED]),
+        (
+            "three pending answers, two further polls",
+            &[b"stdio", b"--patience", b"2"],
+            &[CREATE_SLOW, RETRIEVE],
+            &[PENDING, SLOW_PROCESSING],
+        ),
+        (
+            "three pending answers, three further polls",
+            &[b"stdio", b"--patience", b"3"],
+            &[CREATE_SLOW, RETRIEVE],
+            &[SLOW_SUCCEEDED, SLOW_SUCCEEDED],
+        ),
+        (
+            "the same with leading zeros",
+            &[b"stdio", b"--patience", b"0003"],
+            &[CREATE_SLOW],
+            &[SLOW_SUCCEEDED],
+        ),
+        (
+            "three pending answers, 1,000 further polls",
+            STDIO,
+            &[CREATE_SLOW],
+            &[SLOW_SUCCEEDED],
+        ),
+        (
+            "a link that fails",
+            STDIO,
+            &[CREATE_LOST, CONFIRM_VISA, RETRIEVE],
+            &[FAILED, UNEXPECTED_STATE, LOST_PROCESSING],
+        ),
+        (
+            "a customer who doesn't authenticate",
+            STDIO,
+            &[CREATE_CHALLENGED, FAIL_TO_AUTHENTICATE, CONFIRM_VISA],
+            &[CHALLENGED_AT_ONCE, NOT_AUTHENTICATED, SUCCEEDED],
+        ),
+        (
+            "a decline and another card",
+            STDIO,
+            &[CREATE_DECLINED, CONFIRM_VISA],
+            &[DECLINED, SUCCEEDED],
+        ),
     ];
     for (name, words, requests, replies) in sessions {
         let (status, written) = run(alloc, words, requests, 4096, &[], &[])?;
         assert_eq!(rt; status, 0, "{name}");
-        assert_eq!(rt; written.as_slice(), joined(alloc, replies)?.as_slice(), "{name}");
+        assert_eq!(rt;
+            written.as_slice(),
+            joined(alloc, replies)?.as_slice(),
+            "{name}"
+        );
     }
     Ok(())
 }
