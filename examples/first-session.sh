@@ -6,13 +6,7 @@
 set -eu
 cd "$(dirname "$0")/.."
 
-# METHOD TARGET BODY
-request() {
-    printf '%s %s HTTP/1.1\r\n' "$1" "$2"
-    printf 'Host: localhost\r\n'
-    printf 'Authorization: Bearer sk_test_payhost\r\n'
-    printf 'Content-Length: %s\r\n\r\n%s' "${#3}" "$3"
-}
+. examples/request.sh
 
 requests() {
     # A payment intent of 20.00 usd, and one with an order number in its metadata.

@@ -1,21 +1,26 @@
 -- One entry more, and what follows from it.
-use Rattle.std.proofs.Common.{◌≡◌, ℕ, ◌+◌, ◌^◌, ◌<◌, ◌≤◌, ◌↔◌, ◌∷◌, ◌++◌, Bool, true, false, List, [], length, refl, sym, ap, ◌∙◌, subst, length-append, arith, IsTrue}
+use Rattle.std.proofs.Common.{◌≡◌, ℕ, ◌+◌, ◌^◌, ◌<◌, ◌≤◌, ◌↔◌, ◌∷◌, ◌++◌, Bool, true, false, List, [], length, Option, Some, None, refl, sym, ap, ◌∙◌, subst, length-append, arith, IsTrue}
 use Rattle.std.specs.List.{fold, flat_map, sum_by}
 use Rattle.std.proofs.lemmas.List.{append-nil}
 use Rattle.std.proofs.lemmas.List.Sums.{fold-append, sum_by-append}
 use Rattle.std.proofs.lemmas.Grind.{flat_map-append}
+use Rattle.ph_attempts.specs.declared.flights.Attempt as flights
+use Rattle.ph_attempts.specs.Attempts.{Step}
 use Rattle.ph_rows.specs.declared.rows.Row.{Row}
 use Rattle.ph_rows.specs.Sound.{clock_limit}
-use Rattle.ph_rows.specs.Weights.{row_weight, rows_weight}
+use Rattle.ph_rows.specs.Weights.{rows_weight}
 use Rattle.ph_http.specs.declared.message.Reply.{Reply}
 use Rattle.ph_lock.specs.declared.object.Refused.{Refused}
 use Rattle.ph_book.specs.declared.setup.Setup.{Setup}
 use Rattle.ph_book.specs.declared.acts.Entry.{Entry}
 use Rattle.ph_book.specs.declared.acts.Deed.{Deed}
 use Rattle.ph_book.specs.declared.acts.Answer.{Answer}
-use Rattle.ph_book.specs.Replies.{replies_in}
-use Rattle.ph_book.specs.History.{Happening, opening_row, rows_after, time_after, answer_at, happens, happening_of, and_then, past_of, rows_of, time_of, answer_to, replies_of}
-use Rattle.ph_book.specs.Legal.{deed_weight, weight_after, used_after, is_full_at, is_full_after, is_full, IsAllowed, AreAllowed, IsLegal}
+use Rattle.ph_book.specs.declared.acts.Answer.TheVariants as answer
+use Rattle.ph_book.specs.Answers.{Says, replies_in}
+use Rattle.ph_book.specs.Replies.{Said, Replies, Waits, Silence, replies_said}
+use Rattle.ph_book.specs.History.{Effect, Happening, opening_row, rows_after, time_after, attempts_after, effect_of, effect_after, happens, happening_of, and_then, past_of, rows_of, time_of, attempts_of, effect_to, said_to, replies_of}
+use Rattle.ph_book.specs.Legal.{EndsOwn, deed_weight, weight_after, used_after, is_full_at, is_full_after, is_full, IsAllowed, AreAllowed, IsLegal}
+use Rattle.ph_book.specs.Runs.{after_step, live_of}
 use Rattle.ph_book.specs.State.{BookState, entered, IsBook}
 
 -- a history with one entry more is read as the one before, and then the entry
@@ -46,6 +51,10 @@ rows_more setup past h =
 pub time_more : (setup : Setup) (past : List Happening) (h : Happening) → time_after setup (past ++ h ∷ []) ≡ h.now
 time_more setup past h = fold-append (λ (now : ℕ) (x : Happening). x.now) setup.opened past (h ∷ [])
 
+-- the attempts with one happening more
+pub attempts_more : (past : List Happening) (h : Happening) → attempts_after (past ++ h ∷ []) ≡ after_step (attempts_after past) h.step
+attempts_more past h = fold-append (λ (attempts : List flights.Attempt) (x : Happening). after_step attempts x.step) [] past (h ∷ [])
+
 -- the weight of rows, and of more rows behind them
 pub rows_weight_append : (rows more : List Row) → rows_weight (rows ++ more) ≡ rows_weight rows + rows_weight more
 rows_weight_append [] more = omega arith
@@ -61,25 +70,33 @@ weight_more setup past h =
     ap rows_weight (rows_more setup past h) ∙ rows_weight_append (rows_after setup past) h.rows in
     omega arith
 
--- the replies with one entry more: behind those before come those of its answer
+-- the replies with one entry more: behind those before comes what is said to it
 pub replies_more : (setup : Setup) (history : List Entry) (entry : Entry)
-    → replies_of setup (history ++ entry ∷ []) ≡ replies_of setup history ++ replies_in (answer_to setup history entry)
-unfolding replies_of answer_to
+    → replies_of setup (history ++ entry ∷ []) ≡ replies_of setup history ++ replies_said (said_to setup history entry)
+unfolding replies_of effect_to
 replies_more setup history entry =
     let h : Happening = happening_of setup (past_of setup history) entry in
-    let replies : Happening → List Reply = λ (x : Happening). replies_in x.answer in
+    let replies : Happening → List Reply = λ (x : Happening). replies_said x.said in
     ap (flat_map replies) (past_more setup history entry)
     ∙ flat_map-append replies (past_of setup history) (h ∷ [])
-    ∙ ap (λ more. flat_map replies (past_of setup history) ++ more) (append-nil (replies_in h.answer))
+    ∙ ap (λ more. flat_map replies (past_of setup history) ++ more) (append-nil (replies_said h.said))
+
+-- the reply that is said is that of the answer
+said_replies : (place caller : ℕ) (said : Said) (given : Answer) → Says place caller said given → replies_said said ≡ replies_in given
+said_replies place caller (Replies reply) (answer.Reply given) says = ap (λ r. r ∷ []) (sym says)
+said_replies place caller (Replies reply) (answer.Wait ticket) says = absurd says
+said_replies place caller (Waits order) (answer.Reply given) says = absurd says
+said_replies place caller (Waits order) (answer.Wait ticket) says = refl
+said_replies place caller Silence given says = absurd says
 
 -- the replies of a book that has an entry more, which was answered so
-pub replies_grow : (old new : BookState) (entry : Entry) (given : Answer) → new ≡ entered old entry
-    → given ≡ answer_to old.setup old.history entry
+pub replies_grow : (old new : BookState) (place caller : ℕ) (entry : Entry) (given : Answer) → new ≡ entered old entry
+    → Says place caller (said_to old.setup old.history entry) given
     → replies_of new.setup new.history ≡ replies_of old.setup old.history ++ replies_in given
-replies_grow old new entry given is said =
+replies_grow old new place caller entry given is says =
     ap (λ (book : BookState). replies_of book.setup book.history) is
     ∙ replies_more old.setup old.history entry
-    ∙ ap (λ answer. replies_of old.setup old.history ++ replies_in answer) (sym said)
+    ∙ ap (λ replies. replies_of old.setup old.history ++ replies) (said_replies place caller (said_to old.setup old.history entry) given says)
 
 -- a legal history with one entry more that may come
 allowed_more : (setup : Setup) (past : List Happening) (history : List Entry) (entry : Entry) → AreAllowed setup past history
@@ -88,60 +105,63 @@ allowed_more setup past [] entry before here = (here, tt)
 allowed_more setup past (first ∷ entries) entry before here =
     (before.0, allowed_more setup (and_then setup past first) entries entry before.1 here)
 
--- the rows and the time that a book keeps, as they are read off what happened
-rows_are_read : (setup : Setup) (history : List Entry) (rows : List Row) (time weight : ℕ) → IsBook setup history rows time weight
-    → rows ≡ rows_after setup (past_of setup history)
-unfolding rows_of
-rows_are_read setup history rows time weight b = b.rows_are
-
-time_is_read : (setup : Setup) (history : List Entry) (rows : List Row) (time weight : ℕ) → IsBook setup history rows time weight
-    → time ≡ time_after setup (past_of setup history)
-unfolding time_of
-time_is_read setup history rows time weight b = b.time_is
-
--- what comes of an entry over what a book keeps is what comes of it after the history
-pub happens_of_book : (setup : Setup) (history : List Entry) (rows : List Row) (time weight place : ℕ) (entry : Entry)
-    → IsBook setup history rows time weight → place ≡ length history + 1
-    → happens setup rows time place entry ≡ happening_of setup (past_of setup history) entry
-happens_of_book setup history rows time weight place entry b at =
+-- what a deed comes to over what a book keeps is what it comes to after the history
+pub effect_is : (setup : Setup) (history : List Entry) (rows : List Row) (time weight : ℕ) (attempts : List flights.Attempt) (live place : ℕ) (entry : Entry)
+    → IsBook setup history rows time weight attempts live → place ≡ length history + 1
+    → effect_of setup rows time attempts place entry.caller entry.deed ≡ effect_to setup history entry
+unfolding rows_of time_of attempts_of effect_to
+effect_is setup history rows time weight attempts live place entry b at =
     let places : place ≡ length (past_of setup history) + 1 = at ∙ ap (λ n. n + 1) (sym (length_past setup history)) in
-    ap (λ (p : List Row × (ℕ × ℕ)). happens setup p.0 p.1.0 p.1.1 entry)
-    (λ i. (rows_are_read setup history rows time weight b i, (time_is_read setup history rows time weight b i, places i)))
+    let rows_are : rows ≡ rows_after setup (past_of setup history) = b.rows_are in
+    let time_is : time ≡ time_after setup (past_of setup history) = b.time_is in
+    let attempts_are : attempts ≡ attempts_after (past_of setup history) = b.attempts_are in
+    ap (λ (p : List Row × (ℕ × (List flights.Attempt × ℕ))). effect_of setup p.0 p.1.0 p.1.1.0 p.1.1.1 entry.caller entry.deed)
+    (λ i. (rows_are i, (time_is i, (attempts_are i, places i))))
 
--- what a book keeps after one entry more
-pub book_more : (setup : Setup) (history : List Entry) (rows : List Row) (time weight place : ℕ) (entry : Entry)
-    → IsBook setup history rows time weight → place ≡ length history + 1 → IsAllowed setup (past_of setup history) entry
-    → IsBook setup (history ++ entry ∷ []) (rows ++ (happens setup rows time place entry).rows)
-    (happens setup rows time place entry).now ((weight + deed_weight entry.deed) + rows_weight (happens setup rows time place entry).rows)
-unfolding rows_of time_of
-book_more setup history rows time weight place entry b at allowed =
-    let h : Happening = happens setup rows time place entry in
+-- what a book keeps after one entry more, which comes to these rows and this step
+pub book_more : (setup : Setup) (history : List Entry) (rows : List Row) (time weight : ℕ) (attempts : List flights.Attempt) (live : ℕ) (entry : Entry)
+    (new : List Row) (step : Option Step) (live' : ℕ) → IsBook setup history rows time weight attempts live
+    → IsAllowed setup (past_of setup history) entry → (effect_to setup history entry).rows ≡ new → (effect_to setup history entry).step ≡ step
+    → live' ≡ length (live_of (after_step attempts step))
+    → IsBook setup (history ++ entry ∷ []) (rows ++ new) time ((weight + deed_weight entry.deed) + rows_weight new) (after_step attempts step) live'
+unfolding rows_of time_of attempts_of effect_to
+book_more setup history rows time weight attempts live entry new step live' b allowed made stepped counted =
     let past : List Happening = past_of setup history in
-    let grown : past_of setup (history ++ entry ∷ []) ≡ past ++ h ∷ [] =
-    past_more setup history entry ∙ ap (λ x. past ++ x ∷ []) (sym (happens_of_book setup history rows time weight place entry b at)) in
-    let rows_are : rows ≡ rows_after setup past = rows_are_read setup history rows time weight b in
+    let h : Happening = happening_of setup past entry in
+    let grown : past_of setup (history ++ entry ∷ []) ≡ past ++ h ∷ [] = past_more setup history entry in
+    let rows_are : rows ≡ rows_after setup past = b.rows_are in
+    let time_is : time ≡ time_after setup past = b.time_is in
+    let attempts_are : attempts ≡ attempts_after past = b.attempts_are in
     record {
-      rows_are = sym (ap (rows_after setup) grown ∙ rows_more setup past h ∙ ap (λ x. x ++ h.rows) (sym rows_are));
-      time_is = sym (ap (time_after setup) grown ∙ time_more setup past h);
-      weight_is = sym (ap (weight_after setup) grown ∙ weight_more setup past h ∙ ap (λ x. (x + deed_weight h.entry.deed) + rows_weight h.rows) (sym b.weight_is));
+      rows_are = sym (ap (rows_after setup) grown ∙ rows_more setup past h ∙ ap (λ x. x ++ h.rows) (sym rows_are) ∙ ap (λ x. rows ++ x) made);
+      time_is = sym (ap (time_after setup) grown ∙ time_more setup past h ∙ sym time_is);
+      weight_is = sym (ap (weight_after setup) grown ∙ weight_more setup past h
+          ∙ ap (λ x. (x + deed_weight entry.deed) + rows_weight h.rows) (sym b.weight_is)
+          ∙ ap (λ x. (weight + deed_weight entry.deed) + rows_weight x) made);
+      attempts_are = sym (ap attempts_after grown ∙ attempts_more past h ∙ ap (λ x. after_step x h.step) (sym attempts_are) ∙ ap (after_step attempts) stepped);
+      live_is = counted;
       legal = record { opened = b.legal.opened; allowed = allowed_more setup [] history entry b.legal.allowed allowed };
     }
 
 -- what a book keeps, by equal values
-pub book_is : (setup : Setup) (history history' : List Entry) (rows rows' : List Row) (time time' weight weight' : ℕ)
-    → IsBook setup history rows time weight → history' ≡ history → rows' ≡ rows → time' ≡ time → weight' ≡ weight
-    → IsBook setup history' rows' time' weight'
-book_is setup history history' rows rows' time time' weight weight' b e f g h =
-    subst (λ (p : List Entry × (List Row × (ℕ × ℕ))). IsBook setup p.0 p.1.0 p.1.1.0 p.1.1.1) (λ i. (sym e i, (sym f i, (sym g i, sym h i)))) b
+pub book_is : (setup : Setup) (history history' : List Entry) (rows rows' : List Row) (time time' weight weight' : ℕ) (attempts attempts' : List flights.Attempt) (live : ℕ)
+    → IsBook setup history rows time weight attempts live → history' ≡ history → rows' ≡ rows → time' ≡ time → weight' ≡ weight → attempts' ≡ attempts
+    → IsBook setup history' rows' time' weight' attempts' live
+book_is setup history history' rows rows' time time' weight weight' attempts attempts' live b e f g h k =
+    subst (λ (p : List Entry × (List Row × (ℕ × (ℕ × List flights.Attempt)))). IsBook setup p.0 p.1.0 p.1.1.0 p.1.1.1.0 p.1.1.1.1 live)
+    (λ i. (sym e i, (sym f i, (sym g i, (sym h i, sym k i))))) b
 
 -- the program's test of room is that of the history
-pub full_is : (book : BookState) (setup : Setup) (history : List Entry) (rows : List Row) (time weight used : ℕ) (deed : Deed) (test : Bool)
-    → record { setup = setup; history = history } ≡ book → IsBook setup history rows time weight → used ≡ length history
+pub full_is : (book : BookState) (setup : Setup) (history : List Entry) (rows : List Row) (time weight : ℕ) (attempts : List flights.Attempt) (live used : ℕ) (deed : Deed) (test : Bool)
+    → record { setup = setup; history = history } ≡ book → IsBook setup history rows time weight attempts live → used ≡ length history + live
     → test ≡ is_full_at setup used weight deed → is_full book.setup book.history deed ≡ test
-unfolding is_full
-full_is book setup history rows time weight used deed test is b count tested =
-    let same : used ≡ used_after (past_of setup history) = count ∙ sym (length_past setup history) in
-    let here : is_full_at setup used weight deed ≡ is_full_after setup (past_of setup history) deed =
+unfolding is_full attempts_of
+full_is book setup history rows time weight attempts live used deed test is b count tested =
+    let past : List Happening = past_of setup history in
+    let size : length past ≡ length history = length_past setup history in
+    let counted : live ≡ length (live_of (attempts_after past)) = b.live_is ∙ ap (λ x. length (live_of x)) b.attempts_are in
+    let same : used ≡ used_after past = omega (arith, size, counted, count) in
+    let here : is_full_at setup used weight deed ≡ is_full_after setup past deed =
     ap (λ (p : ℕ × ℕ). is_full_at setup p.0 p.1 deed) (λ i. (same i, b.weight_is i)) in
     subst (λ (x : BookState). is_full_after x.setup (past_of x.setup x.history) deed ≡ test) is (sym (tested ∙ here))
 
@@ -149,26 +169,24 @@ full_is book setup history rows time weight used deed test is b count tested =
 pub no_room : (full test : Bool) → full ≡ test → test ≡ true → (Refused.Full ≡ Refused.Full) ↔ IsTrue full
 no_room full test e h = (λ _. e ∙ h, λ _. refl)
 
-pub has_room : (full test : Bool) → full ≡ test → test ≡ false → (Refused.NoMemory ≡ Refused.Full) ↔ IsTrue full
-has_room full test e h = (λ clash. absurd (cc), λ full_is. absurd (cc))
+pub has_room : (full : Bool) → full ≡ false → (Refused.NoMemory ≡ Refused.Full) ↔ IsTrue full
+has_room full h = (λ clash. absurd (cc), λ full_is. absurd (cc))
 
--- an entry that has room may come
-pub may_come : (setup : Setup) (history : List Entry) (caller : ℕ) (deed : Deed) → caller < 2 ^ 62 → is_full setup history deed ≡ false
+-- an entry that has room, and ends a run of its own caller if any, may come
+pub may_come : (setup : Setup) (history : List Entry) (caller : ℕ) (deed : Deed) → caller < 2 ^ 62
+    → EndsOwn (attempts_of setup history) caller deed → is_full setup history deed ≡ false
     → IsAllowed setup (past_of setup history) (record { caller = caller; deed = deed })
-unfolding is_full
-may_come setup history caller deed below room = record { caller = below; room = room }
-
--- the answer to a call over what a book keeps is the answer to it after the history
-pub answer_is : (book : BookState) (setup : Setup) (history : List Entry) (rows : List Row) (time weight place : ℕ) (entry : Entry) (given : Answer)
-    → record { setup = setup; history = history } ≡ book → IsBook setup history rows time weight → place ≡ length history + 1
-    → given ≡ answer_at setup rows time place entry.deed → given ≡ answer_to book.setup book.history entry
-unfolding answer_to
-answer_is book setup history rows time weight place entry given is b at said =
-    let here : given ≡ (happening_of setup (past_of setup history) entry).answer =
-    said ∙ ap (λ (h : Happening). h.answer) (happens_of_book setup history rows time weight place entry b at) in
-    subst (λ (x : BookState). given ≡ (happening_of x.setup (past_of x.setup x.history) entry).answer) is here
+unfolding is_full attempts_of
+may_come setup history caller deed below own room = record { caller = below; own = own; room = room }
 
 -- a book without entries
-pub book_new : (setup : Setup) → setup.opened ≤ clock_limit → IsBook setup [] (opening_row setup.opened ∷ []) setup.opened 256
-unfolding rows_of time_of
-book_new setup opened = record { rows_are = refl; time_is = refl; weight_is = refl; legal = record { opened = opened; allowed = tt } }
+pub book_new : (setup : Setup) → setup.opened ≤ clock_limit → IsBook setup [] (opening_row setup.opened ∷ []) setup.opened 256 [] 0
+unfolding rows_of time_of attempts_of
+book_new setup opened = record {
+  rows_are = refl;
+  time_is = refl;
+  weight_is = refl;
+  attempts_are = refl;
+  live_is = refl;
+  legal = record { opened = opened; allowed = tt };
+}

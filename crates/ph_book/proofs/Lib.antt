@@ -1,3 +1,7 @@
+pub mod ErrorLemmas
+pub mod RunLemmas
+pub mod FitLemmas
 pub mod HistoryLemmas
-pub mod StatusLemmas
+pub mod EffectLemmas
 pub mod LawLemmas
+pub mod StepLemmas

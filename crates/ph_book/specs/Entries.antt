@@ -1,15 +1,39 @@
 -- Entries of a history.
 use Rattle.std.specs.Prelude.{ℕ}
+use Rattle.ph_base.specs.declared.acquirer.Ruling.{Ruling}
+use Rattle.ph_base.specs.declared.acquirer.Why.{Why}
+use Rattle.ph_attempts.specs.declared.flights.Flight.{Flight}
+use Rattle.ph_http.specs.declared.message.Raw.{Raw}
 use Rattle.ph_book.specs.declared.acts.Act.{Act}
 use Rattle.ph_book.specs.declared.acts.Act.TheVariants as act
 use Rattle.ph_book.specs.declared.acts.Deed.{Deed}
 use Rattle.ph_book.specs.declared.acts.Deed.TheVariants as deed
 use Rattle.ph_book.specs.declared.acts.Entry.{Entry}
 
--- what stands of an act in the history
+-- what stands of an act in the history: of a ticket, the number of its run
 abbrev pub deed_of : Act → Deed
 deed_of (act.Call raw) = deed.Call raw
+deed_of (act.Finish ticket ruling) = deed.Finish ticket.run ruling
+deed_of (act.Park ticket why) = deed.Park ticket.run why
 
 -- the entry of an act of a caller
 abbrev pub entry_of : ℕ → Act → Entry
 entry_of caller act = record { caller = caller; deed = deed_of act }
+
+-- the entry of a request
+abbrev pub call_entry : ℕ → Raw → Entry
+call_entry caller raw = record { caller = caller; deed = deed.Call raw }
+
+-- the entry of a ruling on the order of a ticket's run
+abbrev pub finish_entry : ℕ → Flight → Ruling → Entry
+finish_entry caller ticket ruling = record { caller = caller; deed = deed.Finish ticket.run ruling }
+
+-- the entry of a ticket's run that is given up
+abbrev pub park_entry : ℕ → Flight → Why → Entry
+park_entry caller ticket why = record { caller = caller; deed = deed.Park ticket.run why }
+
+-- the act is never refused: a park has its room and its memory from the beginning of its run
+abbrev pub IsGranted : Act → Type 0
+IsGranted (act.Call raw) = ⊥
+IsGranted (act.Finish ticket ruling) = ⊥
+IsGranted (act.Park ticket why) = Unit {0}

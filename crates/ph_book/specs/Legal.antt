@@ -1,6 +1,7 @@
 -- What a history weighs, what has no room behind it, and which histories are legal.
 use Rattle.std.specs.Prelude.{◌≡◌, ℕ, ◌+◌, ◌^◌, ◌<◌, ◌≤◌, Bool, false, ◌||◌, nat_lt, List, [], ◌∷◌, length, Option, Some, None}
 use Rattle.std.specs.List.{sum_by}
+use Rattle.ph_attempts.specs.declared.flights.Attempt.{Attempt}
 use Rattle.ph_rows.specs.Sound.{clock_limit}
 use Rattle.ph_rows.specs.Weights.{rows_weight}
 use Rattle.ph_http.specs.declared.message.Raw.{Raw}
@@ -8,7 +9,8 @@ use Rattle.ph_book.specs.declared.setup.Setup.{Setup}
 use Rattle.ph_book.specs.declared.acts.Entry.{Entry}
 use Rattle.ph_book.specs.declared.acts.Deed.{Deed}
 use Rattle.ph_book.specs.declared.acts.Deed.TheVariants as deed
-use Rattle.ph_book.specs.History.{Happening, rows_after, and_then, past_of}
+use Rattle.ph_book.specs.History.{Happening, rows_after, attempts_after, and_then, past_of}
+use Rattle.ph_book.specs.Runs.{IsLive, live_of}
 
 -- the length of a text that may be missing
 abbrev pub length_if : Option (List ℕ) → ℕ
@@ -24,19 +26,23 @@ raw_weight raw =
 -- what a deed weighs
 abbrev pub deed_weight : Deed → ℕ
 deed_weight (deed.Call raw) = raw_weight raw
+deed_weight (deed.Finish run ruling) = 0
+deed_weight (deed.Park run why) = 0
 
 -- the weight of what happened: that of the calls, and that of the rows
 abbrev pub weight_after : Setup → List Happening → ℕ
 weight_after setup past = sum_by (λ h. deed_weight h.entry.deed) past + rows_weight (rows_after setup past)
 
--- the places that are taken after what happened
+-- the places that are taken after what happened: each entry, and the end of each live run
 abbrev pub used_after : List Happening → ℕ
-used_after past = length past
+used_after past = length past + length (live_of (attempts_after past))
 
--- a deed has no room where so many places are taken and so much weighs: a call takes two places, and its weight
+-- a deed has no room where so many places are taken and so much weighs: a call takes two places, and its weight; the end of a run has its place from the run's beginning
 abbrev pub is_full_at : Setup → ℕ → ℕ → Deed → Bool
 is_full_at setup used weight (deed.Call raw) =
     nat_lt setup.entries (used + 2) || nat_lt setup.weight (weight + raw_weight raw)
+is_full_at setup used weight (deed.Finish run ruling) = false
+is_full_at setup used weight (deed.Park run why) = false
 
 -- a deed has no room after what happened
 abbrev pub is_full_after : Setup → List Happening → Deed → Bool
@@ -46,9 +52,16 @@ is_full_after setup past deed = is_full_at setup (used_after past) (weight_after
 unfoldable pub is_full : Setup → List Entry → Deed → Bool
 is_full setup history deed = is_full_after setup (past_of setup history) deed
 
+-- a deed ends a live run of its own caller, where it ends one
+abbrev pub EndsOwn : List Attempt → ℕ → Deed → Type 0
+EndsOwn attempts caller (deed.Call raw) = Unit {0}
+EndsOwn attempts caller (deed.Finish run ruling) = IsLive attempts caller run
+EndsOwn attempts caller (deed.Park run why) = IsLive attempts caller run
+
 -- an entry may come after what happened
 pub record IsAllowed (setup : Setup) (past : List Happening) (entry : Entry) : Type 0 where
   pub caller : entry.caller < 2 ^ 62
+  pub own : EndsOwn (attempts_after past) entry.caller entry.deed
   pub room : is_full_after setup past entry.deed ≡ false
 
 -- each of these entries may come after those before it

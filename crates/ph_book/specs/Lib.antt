@@ -1,7 +1,12 @@
 pub mod Entries
 pub mod Replies
+pub mod Answers
 pub mod Calls
+pub mod Runs
 pub mod History
 pub mod Legal
+pub mod Tickets
+pub mod Spares
+pub mod Called
 pub mod State
 pub mod Laws

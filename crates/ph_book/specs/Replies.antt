@@ -1,41 +1,82 @@
--- Replies, and what of an act's answer is one.
-use Rattle.std.specs.Prelude.{ℕ, true, false, List, [], ◌∷◌, Option, Some, None, codes, IsTrue}
+-- Replies, and what is said to an entry.
+use Rattle.std.specs.Prelude.{ℕ, true, false, List, [], ◌∷◌, Option, Some, None, codes}
 use Rattle.std.specs.Option.{option_or}
+use Rattle.ph_base.specs.declared.acquirer.Decline.{Decline}
+use Rattle.ph_base.specs.declared.acquirer.Ruling.{Ruling}
+use Rattle.ph_base.specs.declared.acquirer.Ruling.TheVariants as ruling
+use Rattle.ph_base.specs.declared.acquirer.Why.{Why}
+use Rattle.ph_base.specs.declared.acquirer.Why.TheVariants as why
+use Rattle.ph_rows.specs.declared.orders.Order.{Order}
 use Rattle.ph_rows.specs.declared.rows.Row.{Row}
 use Rattle.ph_rows.specs.Rows.{latest_of}
 use Rattle.ph_rows.specs.Batches.{BatchState}
 use Rattle.ph_errors.specs.declared.api_error.ApiError.{ApiError}
-use Rattle.ph_errors.specs.Table.{NoSuchObject, error_of}
+use Rattle.ph_errors.specs.Table.{Problem, AcquirerPending, AcquirerFailed, CardDeclined, NoMemory, NoSuchObject, error_of}
 use Rattle.ph_errors.specs.Body.{body_of}
 use Rattle.ph_http.specs.declared.message.Reply.{Reply}
-use Rattle.ph_http.specs.Replies.{is_status}
 use Rattle.ph_calls.specs.Outcomes.{Outcome, Refuses, Adds}
-use Rattle.ph_views.specs.Objects.{object_text}
-use Rattle.ph_book.specs.declared.acts.Answer.{Answer}
-use Rattle.ph_book.specs.declared.acts.Answer.TheVariants as answer
+use Rattle.ph_json.specs.declared.doc.Doc.{Doc}
+use Rattle.ph_views.specs.Objects.{object_doc, object_text}
+
+-- the reply of an error, with the document of a payment intent inside or none
+abbrev pub error_reply_with : ApiError → Option Doc → Reply
+error_reply_with error intent = record { status = error.status; body = body_of error intent; replayed = false; retry = error.retry }
 
 -- the reply of an error
 abbrev pub error_reply : ApiError → Reply
-error_reply error = record { status = error.status; body = body_of error None; replayed = false; retry = error.retry }
+error_reply error = error_reply_with error None
+
+-- an object that isn't there
+abbrev pub nothing_reply : Reply
+nothing_reply = error_reply (error_of (NoSuchObject (codes "id")))
 
 -- the reply that shows a version of an object over the rows of a history; an object that isn't there is no such object
 abbrev pub version_reply : List Row → Option Row → Reply
-version_reply rows None = error_reply (error_of (NoSuchObject (codes "id")))
+version_reply rows None = nothing_reply
 version_reply rows (Some row) = record { status = 200; body = object_text rows row; replayed = false; retry = false }
 
 -- the last version of an object: in the batch of the entry where it stands there, and else in the rows before it
 abbrev pub version_with : List Row → BatchState → ℕ → Option Row
 version_with rows batch object = option_or (latest_of object batch.rows) (latest_of object rows)
 
--- the reply of what a call comes to, over the rows before it
-abbrev pub outcome_reply : List Row → Outcome → Reply
-outcome_reply rows (Refuses error) = error_reply error
-outcome_reply rows (Adds object batch) = version_reply rows (version_with rows batch object)
+-- the reply that shows what an outcome shows, over the rows before it
+abbrev pub shown_reply : List Row → ℕ → BatchState → Reply
+shown_reply rows object batch = version_reply rows (version_with rows batch object)
 
--- the reply that an answer is
-abbrev pub replies_in : Answer → List Reply
-replies_in (answer.Reply reply) = reply ∷ []
+-- the reply to a declined payment, with the payment intent inside
+abbrev pub declined_reply : List Row → Decline → Option Row → Reply
+declined_reply rows decline None = nothing_reply
+declined_reply rows decline (Some row) = error_reply_with (error_of (CardDeclined decline)) (Some (object_doc rows row))
 
--- the status of a reply is one that replies are written with
-abbrev pub HasStatus : Answer → Type 0
-HasStatus (answer.Reply reply) = IsTrue (is_status reply.status)
+-- the reply to a ruling that was entered: the payment intent, or the decline with the payment intent inside
+abbrev pub settled_reply : List Row → Ruling → ℕ → BatchState → Reply
+settled_reply rows ruling.Approved object batch = shown_reply rows object batch
+settled_reply rows (ruling.Declined decline) object batch = declined_reply rows decline (version_with rows batch object)
+settled_reply rows ruling.Challenge object batch = shown_reply rows object batch
+
+-- the reply to a ruling whose outcome is this
+abbrev pub ruling_reply : List Row → Ruling → Outcome → Reply
+ruling_reply rows ruling (Refuses error) = error_reply error
+ruling_reply rows ruling (Adds object batch) = settled_reply rows ruling object batch
+
+-- the error of a run that was given up
+abbrev pub problem_of : Why → Problem
+problem_of why.Pending = AcquirerPending
+problem_of why.Failed = AcquirerFailed
+problem_of why.NoMemory = NoMemory
+
+-- the reply to a park
+abbrev pub park_reply : Why → Reply
+park_reply why = error_reply (error_of (problem_of why))
+
+-- what is said to an entry: a reply; that it waits for the acquirer to rule on an order; or nothing, where it ends no run
+pub data Said : Type 0 where
+  Replies : Reply → Said
+  Waits : Order → Said
+  Silence : Said
+
+-- the reply among what is said
+abbrev pub replies_said : Said → List Reply
+replies_said (Replies reply) = reply ∷ []
+replies_said (Waits order) = []
+replies_said Silence = []

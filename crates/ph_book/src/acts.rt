@@ -1,21 +1,28 @@
 //! Acts, the entries that they become, and the answers to them.
-ghost use Rattle.std.specs.Prelude.{◌≡◌};
-ghost use Rattle.ph_book.specs.Entries.{deed_of};
 
+use ph_attempts::Ticket;
+use ph_base::{Ruling, Why};
 use ph_http::{Raw, Reply};
 
-/// What a caller does.
-#[derive(Drop, Debug)]
+/// What a caller does. An act with a ticket can't be dropped: it is applied, or comes back.
 pub enum Act {
     /// It sends a request.
     Call(Raw),
+    /// The acquirer has ruled on the order of a run: its attempt is settled.
+    Finish(Ticket, Ruling),
+    /// A run is given up before its acquirer has ruled: its attempt waits to be taken up again.
+    Park(Ticket, Why),
 }
 
-/// What stands of an act in the history.
+/// What stands of an act in the history. A run has the place of the entry that began it as its number.
 #[derive(Drop, Debug)]
 pub enum Deed {
     /// A request.
     Call(Raw),
+    /// A ruling on the order of the run with this number.
+    Finish(u64, Ruling),
+    /// The run with this number was given up.
+    Park(u64, Why),
 }
 
 /// An entry of the history.
@@ -27,19 +34,10 @@ pub struct Entry {
 }
 
 /// The answer to an act that was entered.
-#[derive(Drop, Debug)]
 pub enum Answer {
-    /// The reply to the request.
+    /// The reply to a request.
     Reply(Reply),
-}
-
-impl Act {
-    /// What stands of the act in the history.
-    pub fn into_deed(self) -> Deed
-        ensures { result ≡ deed_of self }
-    {
-        match self {
-            Act::Call(raw) => Deed::Call(raw),
-        }
-    }
+    /// The request waits until the acquirer has ruled on the ticket's order: whoever holds the ticket finishes its run
+    /// or parks it, and that act's answer is the reply.
+    Wait(Ticket),
 }

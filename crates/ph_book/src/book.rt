@@ -1,44 +1,59 @@
 //! The book.
-ghost use Rattle.std.specs.Prelude.{◌≡◌, ◌^◌, ◌<◌, ◌≤◌, ◌↔◌, ◌∷◌, ◌++◌, [], false, IfOk, IfErr, OnOk, IsTrue};
+ghost use Rattle.std.specs.Prelude.{◌≡◌, ◌+◌, ◌^◌, ◌<◌, ◌≤◌, ◌↔◌, ◌∷◌, ◌++◌, [], false, length, None, Some, IfOk, IfErr, OnOk, OnErr, IsTrue};
+ghost use Rattle.ph_attempts.specs.Attempts.{Begins};
 ghost use Rattle.ph_rows.specs.Sound.{clock_limit};
 ghost use Rattle.ph_lock.specs.declared.object.Refused.{Refused};
 ghost use Rattle.ph_book.specs.declared.acts.Deed.TheVariants as deed;
 ghost use Rattle.ph_book.specs.State.{BookState, entered};
-ghost use Rattle.ph_book.specs.Entries.{deed_of, entry_of};
-ghost use Rattle.ph_book.specs.History.{answer_to, opening_row, replies_of};
-ghost use Rattle.ph_book.specs.Replies.{HasStatus, replies_in};
+ghost use Rattle.ph_book.specs.Answers.{HasStatus, IsAnswerTo, Says, replies_in};
+ghost use Rattle.ph_book.specs.Called.{IsCalled};
+ghost use Rattle.ph_book.specs.Entries.{IsGranted, call_entry, deed_of, entry_of, finish_entry, park_entry};
+ghost use Rattle.ph_book.specs.History.{effect_to, opening_row, replies_of, said_to};
+ghost use Rattle.ph_book.specs.Replies.{Replies, park_reply};
 ghost use Rattle.ph_book.specs.Legal.{is_full, IsLegal};
+ghost use Rattle.ph_book.specs.Tickets.{HandsOut, Holds, SpendsOwn};
 
 use crate::acts::{Act, Answer, Deed, Entry};
-use crate::calls::{Called, PLATFORM, answer};
+use crate::calls::{Called, PLATFORM, called_by};
+use crate::endings::{Ending, parked_row, settled};
+use crate::room::{one_less, push_row, take_room};
 use crate::setup::Setup;
-use crate::weights;
-use ph_base::{Kind, NoMemory};
-use ph_http::Raw;
+use crate::spares::{Spare, add_spare, take_spare};
+use crate::weights::{self, row_weight};
+use ph_attempts::{Attempts, Ticket};
+use ph_base::{Kind, NoMemory, Ruling, Why};
+use ph_http::{Raw, Reply};
 use ph_lock::Refused;
 use ph_money::Currency;
-use ph_rows::{Account, AccountType, Item, ListView, Metadata, Row, View};
+use ph_rows::{Account, AccountType, Item, ListView, Metadata, Order, Row, View};
 use std::alloc::Global;
 use std::marker::Model;
 
 /// A setup and one history of entries.
-#[derive(Drop, Debug)]
+#[derive(Drop)]
 pub struct Book {
     alloc: Global,
     setup: Setup,
     entries: Vec<Entry>,
     view: ListView,
     weight: u64,
+    attempts: Attempts,
+    // the number of live runs
+    live: usize,
+    // one for each live run
+    spares: Vec<Spare>,
 }
 
 impl Model for Book {
-    ghost use Rattle.ph_book.specs.State.{BookState, IsBook};
+    ghost use Rattle.std.specs.Prelude.{length, vec_capacity};
+    ghost use Rattle.ph_book.specs.State.{BookState, HasRoom, IsBook};
 
     ghost Value = { BookState };
 
     ghost view = { λ b. record { setup = b.setup; history = b.entries.items } };
 
-    ghost invariant = { λ b. IsBook b.setup b.entries.items b.view.rows b.view.time b.weight };
+    ghost invariant = { λ b. IsBook b.setup b.entries.items b.view.rows b.view.time b.weight b.attempts b.live
+        × HasRoom b.live (length b.entries.items) (vec_capacity b.entries) b.view.room (length b.spares.items) b.weight };
 }
 
 // The view that every book begins with: the platform's own account.
@@ -77,61 +92,104 @@ impl Book {
             entries: Vec::new(alloc),
             view,
             weight: 256,
+            attempts: Attempts::new(alloc),
+            live: 0,
+            spares: Vec::new(alloc),
         })
     }
 
-    /// Enters an act of a caller as one entry and answers it, or hands it back and changes nothing.
+    /// Enters an act of a caller as one entry and answers it, or hands it back and changes nothing. A park is never
+    /// refused, and takes no memory.
     #[tactic(auto, using(crate::proofs::HistoryLemmas::replies_grow))]
     pub fn apply(&mut self, caller: u64, act: Act) -> Result<Answer, (Act, Refused)>
         requires caller { caller < 2 ^ 62 }
+        requires own { SpendsOwn self.old.setup self.old.history caller act }
         ensures entry { OnOk result (self.new ≡ entered self.old (entry_of caller act)) }
-        ensures answer { IfOk result (λ answer. answer ≡ answer_to self.old.setup self.old.history (entry_of caller act)) }
+        ensures answer { IfOk result (λ answer. Says (length self.old.history + 1) caller (said_to self.old.setup self.old.history (entry_of caller act)) answer) }
+        ensures kind { IfOk result (λ answer. IsAnswerTo act answer) }
         ensures status { IfOk result (λ answer. HasStatus answer) }
+        ensures live { IfOk result (λ answer. HandsOut self.new.setup self.new.history caller answer) }
         ensures replies { IfOk result (λ answer. replies_of self.new.setup self.new.history ≡ replies_of self.old.setup self.old.history ++ replies_in answer) }
         ensures unchanged { IfErr result (λ refused. (refused.0 ≡ act) × (self.new ≡ self.old)) }
         ensures full { IfErr result (λ refused. (refused.1 ≡ Refused.Full) ↔ IsTrue (is_full self.old.setup self.old.history (deed_of act))) }
         ensures room { OnOk result (is_full self.old.setup self.old.history (deed_of act) ≡ false) }
+        ensures granted { OnErr result (IsGranted act → ⊥) }
     {
         match act {
             Act::Call(raw) => match self.call(caller, raw) {
                 Ok(answer) => Ok(answer),
                 Err((raw, refused)) => Err((Act::Call(raw), refused)),
             },
+            Act::Finish(ticket, ruling) => match self.finish(caller, ticket, ruling) {
+                Ok(reply) => Ok(Answer::Reply(reply)),
+                Err(ticket) => Err((Act::Finish(ticket, ruling), Refused::NoMemory)),
+            },
+            Act::Park(ticket, why) => Ok(Answer::Reply(self.park(caller, ticket, why))),
         }
     }
 
     // Enters a call.
     fn call(&mut self, caller: u64, raw: Raw) -> Result<Answer, (Raw, Refused)>
         requires caller { caller < 2 ^ 62 }
-        ensures entry { OnOk result (self.new ≡ entered self.old (record { caller = caller; deed = deed.Call raw })) }
-        ensures answer { IfOk result (λ answer. answer ≡ answer_to self.old.setup self.old.history (record { caller = caller; deed = deed.Call raw })) }
-        ensures status { IfOk result (λ answer. HasStatus answer) }
+        ensures entry { OnOk result (self.new ≡ entered self.old (call_entry caller raw)) }
+        ensures answer { IfOk result (λ answer. Says (length self.old.history + 1) caller (said_to self.old.setup self.old.history (call_entry caller raw)) answer) }
+        ensures live { IfOk result (λ answer. HandsOut self.new.setup self.new.history caller answer) }
         ensures unchanged { IfErr result (λ refused. (refused.0 ≡ raw) × (self.new ≡ self.old)) }
         ensures full { IfErr result (λ refused. (refused.1 ≡ Refused.Full) ↔ IsTrue (is_full self.old.setup self.old.history (deed.Call raw))) }
         ensures room { OnOk result (is_full self.old.setup self.old.history (deed.Call raw) ≡ false) }
     {
-        let used = self.entries.len() as u64;
+        let used = self.entries.len() as u64 + self.live as u64;
         if weights::is_full(&self.setup, used, self.weight, &raw) {
             return Err((raw, Refused::Full));
         }
-        let Called { reply, rows } = match answer(
-            self.alloc,
-            &self.setup.key,
-            &self.view,
-            used + 1,
-            &raw,
-        ) {
-            Ok(called) => called,
-            Err(NoMemory) => return Err((raw, Refused::NoMemory)),
-        };
-        let Some(weight) = weights::weight_with_call(self.weight, &raw, rows.as_slice()) else {
-            return Err((raw, Refused::NoMemory));
-        };
-        if self.entries.reserve(1).is_err() {
-            return Err((raw, Refused::NoMemory));
+        let place = self.entries.len() as u64 + 1;
+        match called_by(self.alloc, &self.setup.key, &self.view, place, &raw) {
+            Ok(called) => match self.enter_called(caller, raw, called) {
+                Ok(answer) => Ok(answer),
+                Err(raw) => Err((raw, Refused::NoMemory)),
+            },
+            Err(NoMemory) => Err((raw, Refused::NoMemory)),
         }
-        if self.view.reserve(rows.len()).is_err() {
-            return Err((raw, Refused::NoMemory));
+    }
+
+    // Enters a call that comes to this.
+    fn enter_called(&mut self, caller: u64, raw: Raw, called: Called) -> Result<Answer, Raw>
+        requires caller { caller < 2 ^ 62 }
+        requires room { is_full self.old.setup self.old.history (deed.Call raw) ≡ false }
+        requires called { IsCalled (length self.old.history + 1) caller (effect_to self.old.setup self.old.history (call_entry caller raw)) called }
+        ensures entry { OnOk result (self.new ≡ entered self.old (call_entry caller raw)) }
+        ensures answer { IfOk result (λ answer. Says (length self.old.history + 1) caller (said_to self.old.setup self.old.history (call_entry caller raw)) answer) }
+        ensures live { IfOk result (λ answer. HandsOut self.new.setup self.new.history caller answer) }
+        ensures unchanged { IfErr result (λ back. (back ≡ raw) × (self.new ≡ self.old)) }
+    {
+        match called {
+            Called::Answered(reply, rows) => match self.enter(caller, raw, rows) {
+                Ok(()) => Ok(Answer::Reply(reply)),
+                Err(raw) => Err(raw),
+            },
+            Called::Waiting(order, rows) => match self.begin(caller, raw, order, rows) {
+                Ok(ticket) => Ok(Answer::Wait(ticket)),
+                Err(raw) => Err(raw),
+            },
+        }
+    }
+
+    // Enters a call that is answered at once, and makes these rows.
+    fn enter(&mut self, caller: u64, raw: Raw, rows: Vec<Row>) -> Result<(), Raw>
+        requires caller { caller < 2 ^ 62 }
+        requires room { is_full self.old.setup self.old.history (deed.Call raw) ≡ false }
+        requires rows { (effect_to self.old.setup self.old.history (call_entry caller raw)).rows ≡ rows.items }
+        requires step { (effect_to self.old.setup self.old.history (call_entry caller raw)).step ≡ None }
+        ensures entry { OnOk result (self.new ≡ entered self.old (call_entry caller raw)) }
+        ensures unchanged { IfErr result (λ back. (back ≡ raw) × (self.new ≡ self.old)) }
+    {
+        let Some(weight) = weights::weight_after_call(self.weight, &raw, rows.as_slice(), self.live)
+        else {
+            return Err(raw);
+        };
+        match take_room(&mut self.entries, &mut self.view, rows.len(), self.live) {
+            Ok(()) => {}
+            Err(NoMemory) => return Err(raw),
         }
         self.entries.push_reserved(Entry {
             caller,
@@ -139,7 +197,103 @@ impl Book {
         });
         self.view.append_reserved(rows);
         self.weight = weight;
-        Ok(Answer::Reply(reply))
+        Ok(())
+    }
+
+    // Enters a call that waits for an order, and makes these rows. What the end of its run needs is made now.
+    fn begin(&mut self, caller: u64, raw: Raw, order: Order, rows: Vec<Row>) -> Result<Ticket, Raw>
+        requires caller { caller < 2 ^ 62 }
+        requires room { is_full self.old.setup self.old.history (deed.Call raw) ≡ false }
+        requires rows { (effect_to self.old.setup self.old.history (call_entry caller raw)).rows ≡ rows.items }
+        requires step { (effect_to self.old.setup self.old.history (call_entry caller raw)).step ≡ Some (Begins (record { caller = caller; run = length self.old.history + 1; order = order })) }
+        ensures entry { OnOk result (self.new ≡ entered self.old (call_entry caller raw)) }
+        ensures ticket { IfOk result (λ ticket. ticket ≡ record { caller = caller; run = length self.old.history + 1; order = order }) }
+        ensures live { IfOk result (λ ticket. Holds self.new.setup self.new.history caller ticket) }
+        ensures unchanged { IfErr result (λ back. (back ≡ raw) × (self.new ≡ self.old)) }
+    {
+        let live = self.live + 1;
+        let run = self.entries.len() as u64 + 1;
+        let Some(weight) = weights::weight_after_call(self.weight, &raw, rows.as_slice(), live)
+        else {
+            return Err(raw);
+        };
+        match take_room(&mut self.entries, &mut self.view, rows.len(), live) {
+            Ok(()) => {}
+            Err(NoMemory) => return Err(raw),
+        }
+        match add_spare(self.alloc, &mut self.spares) {
+            Ok(()) => {}
+            Err(NoMemory) => return Err(raw),
+        }
+        let ticket = match self.attempts.begin(caller, run, order) {
+            Ok(ticket) => ticket,
+            Err(NoMemory) => return Err(raw),
+        };
+        self.entries.push_reserved(Entry {
+            caller,
+            deed: Deed::Call(raw),
+        });
+        self.view.append_reserved(rows);
+        self.weight = weight;
+        self.live = live;
+        Ok(ticket)
+    }
+
+    // Enters a ruling. Where there is no memory, the ticket comes back.
+    fn finish(&mut self, caller: u64, ticket: Ticket, ruling: Ruling) -> Result<Reply, Ticket>
+        requires caller { caller < 2 ^ 62 }
+        requires own { Holds self.old.setup self.old.history caller ticket }
+        ensures entry { OnOk result (self.new ≡ entered self.old (finish_entry caller ticket ruling)) }
+        ensures said { IfOk result (λ reply. said_to self.old.setup self.old.history (finish_entry caller ticket ruling) ≡ Replies reply) }
+        ensures unchanged { IfErr result (λ back. (back ≡ ticket) × (self.new ≡ self.old)) }
+    {
+        let live = one_less(self.live);
+        let place = self.entries.len() as u64 + 1;
+        let attempt = ticket.order().reference;
+        let Ending { reply, rows } = match settled(self.alloc, &self.view, place, attempt, ruling) {
+            Ok(ending) => ending,
+            Err(NoMemory) => return Err(ticket),
+        };
+        let Some(weight) = weights::weight_after(self.weight, rows.as_slice(), live) else {
+            return Err(ticket);
+        };
+        match take_room(&mut self.entries, &mut self.view, rows.len(), live) {
+            Ok(()) => {}
+            Err(NoMemory) => return Err(ticket),
+        }
+        let run = ticket.run();
+        self.attempts.settle(ticket);
+        self.entries.push_reserved(Entry {
+            caller,
+            deed: Deed::Finish(run, ruling),
+        });
+        self.view.append_reserved(rows);
+        self.weight = weight;
+        self.live = live;
+        let _spare = take_spare(&mut self.spares);
+        Ok(reply)
+    }
+
+    // Enters the end of a run that is given up. It is never refused, and takes no memory.
+    fn park(&mut self, caller: u64, ticket: Ticket, why: Why) -> Reply
+        requires caller { caller < 2 ^ 62 }
+        requires own { Holds self.old.setup self.old.history caller ticket }
+        ensures entry { self.new ≡ entered self.old (park_entry caller ticket why) }
+        ensures said { said_to self.old.setup self.old.history (park_entry caller ticket why) ≡ Replies result }
+        ensures reply { result ≡ park_reply why }
+    {
+        let live = one_less(self.live);
+        let row = parked_row(&self.view, ticket.order().reference);
+        let run = ticket.run();
+        self.attempts.park(ticket);
+        self.entries.push_reserved(Entry {
+            caller,
+            deed: Deed::Park(run, why),
+        });
+        self.weight += row_weight(&row);
+        push_row(&mut self.view, row);
+        self.live = live;
+        take_spare(&mut self.spares).reply(why)
     }
 
     /// Its entries, the oldest first. They are a legal history.

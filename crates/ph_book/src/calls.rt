@@ -1,31 +1,37 @@
 //! What a call comes to.
-ghost use Rattle.std.specs.Prelude.{◌≡◌, length, IfOk};
+ghost use Rattle.std.specs.Prelude.{◌≡◌, ℕ, length, IfOk, None};
 ghost use Rattle.ph_rows.specs.Batches.{empty_batch};
 ghost use Rattle.ph_calls.specs.Outcomes.{Gives};
 ghost use Rattle.ph_calls.specs.Reading.{reading_of};
 ghost use Rattle.ph_views.specs.Events.{platform};
+ghost use Rattle.ph_intents.specs.Attempts.{begun};
 ghost use Rattle.ph_intents.specs.Finding.{intent_named};
-ghost use Rattle.ph_book.specs.Calls.{called_at, carried, found_outcome, is_key, is_platform, read_outcome};
-ghost use Rattle.ph_book.specs.History.{outcome_rows};
-ghost use Rattle.ph_book.specs.Replies.{outcome_reply};
+ghost use Rattle.ph_book.specs.Calls.{authenticated, called_at, carried, created, found_outcome, is_key, is_platform, read_outcome};
+ghost use Rattle.ph_book.specs.Called.{IsCalled};
+ghost use Rattle.ph_book.specs.History.{added_effect, call_effect};
 
-use crate::replies::{error_reply, version_reply, version_with};
+use crate::replies::{error_reply, shown_reply};
 use ph_base::{Bytes, Id, Kind, NoMemory, print_id};
-use ph_calls::{Call, read_call};
+use ph_calls::{Authenticate, Call, CreateIntent, read_call};
 use ph_errors::{ApiError, Refusal};
 use ph_http::{Raw, Reply};
-use ph_intents::{create, intent_row};
-use ph_rows::{Batch, ListView, Row, View};
+use ph_intents::{
+    Begin, begin, begun, cancel, capture, create, fail_authentication, intent_row, update,
+};
+use ph_kinds::Authentication;
+use ph_rows::{Batch, ListView, Order, Row, View};
 use std::alloc::Global;
 
 /// The number of the platform's own account.
 pub const PLATFORM: u64 = 1;
 
-/// What a call comes to: its reply, and the rows that it makes.
+/// What a call comes to, with the rows that it makes.
 #[derive(Drop, Debug)]
-pub struct Called {
-    pub reply: Reply,
-    pub rows: Vec<Row>,
+pub enum Called {
+    /// It is answered by this reply.
+    Answered(Reply, Vec<Row>),
+    /// It waits until the acquirer has ruled on this order.
+    Waiting(Order, Vec<Row>),
 }
 
 // Whether the credentials of a request are the key of the setup.
@@ -64,13 +70,51 @@ fn retrieve(alloc: Global, view: &ListView, id: &[u8], batch: &Batch) -> Result<
     }
 }
 
+// A create, which may be confirmed at once.
+fn make(
+    alloc: Global,
+    view: &ListView,
+    call: &CreateIntent,
+    batch: &mut Batch,
+) -> Result<u64, Refusal>
+    ensures { Gives (created view.now.rows call.now batch.old) result batch.new }
+{
+    if call.confirm {
+        begin(alloc, view, PLATFORM, Begin::Create(call), batch)
+    } else {
+        create(alloc, view, PLATFORM, call, batch)
+    }
+}
+
+// An authentication, which succeeded or failed.
+fn authenticate(
+    alloc: Global,
+    view: &ListView,
+    call: &Authenticate,
+    batch: &mut Batch,
+) -> Result<u64, Refusal>
+    ensures { Gives (authenticated view.now.rows call.now batch.old call.now.outcome) result batch.new }
+{
+    match call.outcome {
+        Authentication::Succeeded => {
+            begin(alloc, view, PLATFORM, Begin::Authenticate(call), batch)
+        }
+        Authentication::Failed => fail_authentication(alloc, view, PLATFORM, call, batch),
+    }
+}
+
 // Carries a call out: one arm for each row of the table of calls.
 fn carry(alloc: Global, view: &ListView, call: &Call, batch: &mut Batch) -> Result<u64, Refusal>
     ensures { Gives (carried view.now.rows call.now batch.old) result batch.new }
 {
     match call {
-        Call::CreateIntent(call) => create(alloc, view, PLATFORM, call, batch),
+        Call::CreateIntent(call) => make(alloc, view, call, batch),
         Call::GetIntent(call) => retrieve(alloc, view, call.id.as_slice(), batch),
+        Call::UpdateIntent(call) => update(alloc, view, PLATFORM, call, batch),
+        Call::ConfirmIntent(call) => begin(alloc, view, PLATFORM, Begin::Confirm(call), batch),
+        Call::CaptureIntent(call) => capture(alloc, view, PLATFORM, call, batch),
+        Call::CancelIntent(call) => cancel(alloc, view, PLATFORM, call, batch),
+        Call::Authenticate(call) => authenticate(alloc, view, call, batch),
     }
 }
 
@@ -110,28 +154,36 @@ fn outcome(
     read_and_carry(alloc, view, raw, batch)
 }
 
+// What an accepted call comes to, which shows an object: a run where its batch begins an attempt, and else a reply.
+fn added(alloc: Global, view: &ListView, object: u64, batch: Batch) -> Result<Called, NoMemory>
+    ensures { (place caller : ℕ) → IfOk result (λ called. IsCalled place caller (added_effect view.now.rows place caller object batch (begun batch)) called) }
+{
+    match begun(&batch) {
+        None => {
+            let reply = shown_reply(alloc, view, object, &batch)?;
+            Ok(Called::Answered(reply, batch.into_rows(alloc, None)?))
+        }
+        Some(order) => Ok(Called::Waiting(order, batch.into_rows(alloc, None)?)),
+    }
+}
+
 /// What a request comes to over the rows of a view, as the entry of a place, where this is the key of the setup.
-pub fn answer(
+pub fn called_by(
     alloc: Global,
     key: &Bytes,
     view: &ListView,
     place: u64,
     raw: &Raw,
 ) -> Result<Called, NoMemory>
-    ensures reply { IfOk result (λ called. called.reply ≡ outcome_reply view.now.rows (called_at key.now view.now.rows view.now.time place raw.now)) }
-    ensures rows { IfOk result (λ called. called.rows.items ≡ outcome_rows (called_at key.now view.now.rows view.now.time place raw.now)) }
+    ensures { (caller : ℕ) → IfOk result (λ called. IsCalled place caller (call_effect view.now.rows place caller (called_at key.now view.now.rows view.now.time place raw.now)) called) }
 {
     let mut batch = Batch::new(alloc, view.rows().len() as u64, view.time(), place);
     match outcome(alloc, key, view, raw, &mut batch) {
-        Ok(object) => {
-            let reply = version_reply(alloc, view, version_with(view, &batch, object))?;
-            let rows = batch.into_rows(alloc, None)?;
-            Ok(Called { reply, rows })
+        Ok(object) => added(alloc, view, object, batch),
+        Err(Refusal::Api(error)) => {
+            let reply = error_reply(alloc, &error, None)?;
+            Ok(Called::Answered(reply, Vec::new(alloc)))
         }
-        Err(Refusal::Api(error)) => Ok(Called {
-            reply: error_reply(alloc, &error)?,
-            rows: Vec::new(alloc),
-        }),
         Err(Refusal::NoMemory) => Err(NoMemory),
     }
 }

@@ -4,9 +4,12 @@
 mod acts;
 mod book;
 mod calls;
+mod endings;
 mod laws;
 mod replies;
+mod room;
 mod setup;
+mod spares;
 #[cfg(test)]
 mod tests;
 mod weights;

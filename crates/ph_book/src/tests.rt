@@ -2,5 +2,6 @@
 
 mod answers;
 mod room;
+mod runs;
 mod shown;
 mod tables;

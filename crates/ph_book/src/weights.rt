@@ -1,5 +1,5 @@
 //! What entries weigh, and what has no room.
-ghost use Rattle.std.specs.Prelude.{◌≡◌, ◌+◌, ◌<◌, ◌^◌, length, nat_lt};
+ghost use Rattle.std.specs.Prelude.{◌≡◌, ◌+◌, ◌<◌, ◌^◌, ◌*◌, length, nat_lt, option_to_list, IfSome};
 ghost use Rattle.ph_rows.specs.Weights.{rows_weight, FitsOrNone};
 ghost use Rattle.ph_book.specs.Legal.{is_full_at, length_if, raw_weight};
 ghost use Rattle.ph_book.specs.declared.acts.Deed.TheVariants as deed;
@@ -39,12 +39,43 @@ fn weight_with_raw(weight: u64, raw: &Raw) -> Option<u64>
     plus_text(sum, &raw.body)
 }
 
-/// A weight, that of a request and that of rows. None exactly where 64 bits don't hold it.
-pub fn weight_with_call(weight: u64, raw: &Raw, rows: &[Row]) -> Option<u64>
-    ensures { FitsOrNone result (weight + raw_weight raw.now + rows_weight rows.now) }
+// Whether a weight leaves 256 for each live run, in 64 bits.
+fn leaves_room(weight: u64, live: usize) -> bool
+    ensures { result ≡ nat_lt (weight + 256 * live) (2 ^ 64) }
 {
-    let sum = weight_with_raw(weight, raw)?;
-    weight_with_rows(sum, rows)
+    match (live as u64).checked_mul(256) {
+        Some(ends) => weight.checked_add(ends).is_some(),
+        None => false,
+    }
+}
+
+/// A weight and that of rows, where 64 bits hold it with 256 more for each live run.
+pub fn weight_after(weight: u64, rows: &[Row], live: usize) -> Option<u64>
+    ensures { IfSome result (λ sum. (sum ≡ weight + rows_weight rows.now) × (sum + 256 * live < 2 ^ 64)) }
+{
+    let sum = weight_with_rows(weight, rows)?;
+    if leaves_room(sum, live) {
+        Some(sum)
+    } else {
+        None
+    }
+}
+
+/// The same, with the weight of a request.
+pub fn weight_after_call(weight: u64, raw: &Raw, rows: &[Row], live: usize) -> Option<u64>
+    ensures { IfSome result (λ sum. (sum ≡ (weight + raw_weight raw.now) + rows_weight rows.now) × (sum + 256 * live < 2 ^ 64)) }
+{
+    weight_after(weight_with_raw(weight, raw)?, rows, live)
+}
+
+/// What the row of a park weighs, which has no texts; 0 where there is none.
+pub fn row_weight(row: &Option<Row>) -> u64
+    ensures { result ≡ 256 * length (option_to_list row.now) }
+{
+    match row {
+        Some(_) => 256,
+        None => 0,
+    }
 }
 
 /// Whether a call has no room, where so many places are taken and so much weighs.

@@ -15,7 +15,7 @@ use Rattle.ph_calls.specs.declared.row.Name.TheVariants as name
 use Rattle.ph_calls.specs.declared.call.Call.{Call}
 use Rattle.ph_calls.specs.declared.call.Call.TheVariants as call
 use Rattle.ph_calls.specs.Check.{error_in}
-use Rattle.ph_calls.specs.Intents.{create_intent, create_intent_error}
+use Rattle.ph_calls.specs.Intents.{authenticate_intent, cancel_intent, capture_intent, confirm_intent, create_intent, create_intent_error, update_intent}
 use Rattle.ph_calls.specs.Routes.{Route, Nowhere, To, route_in}
 use Rattle.ph_calls.specs.Table.{Line, table}
 
@@ -35,6 +35,11 @@ unless_error (Some error) made = Err error
 abbrev pub call_of : Name → List ℕ → List Leaf → Result Call ApiError
 call_of name.CreateIntent id leaves = unless_error (create_intent_error (create_intent leaves)) (Ok (call.CreateIntent (create_intent leaves)))
 call_of name.GetIntent id leaves = Ok (call.GetIntent (record { id = id }))
+call_of name.UpdateIntent id leaves = Ok (call.UpdateIntent (update_intent id leaves))
+call_of name.ConfirmIntent id leaves = Ok (call.ConfirmIntent (confirm_intent id leaves))
+call_of name.CaptureIntent id leaves = Ok (call.CaptureIntent (capture_intent id leaves))
+call_of name.CancelIntent id leaves = Ok (call.CancelIntent (cancel_intent id leaves))
+call_of name.Authenticate id leaves = Ok (call.Authenticate (authenticate_intent id leaves))
 
 -- what a request of this row is read as
 abbrev pub reading_by : Line → List ℕ → Result (List Leaf) FormFault → Result Call ApiError

@@ -1,9 +1,9 @@
 -- The table of calls.
 use Rattle.std.specs.Prelude.{ℕ, Bool, true, false, List, [], ◌∷◌, map, codes}
 use Rattle.ph_kinds.specs.declared.kind.Kind.{Kind}
-use Rattle.ph_kinds.specs.declared.kind.Kind.TheVariants.{Amount, Currency, Text, Method, Metadata, CaptureMethod}
+use Rattle.ph_kinds.specs.declared.kind.Kind.TheVariants.{Amount, Currency, Truth, Text, Method, Metadata, CaptureMethod, CancellationReason, Authentication}
 use Rattle.ph_calls.specs.declared.row.Name.{Name}
-use Rattle.ph_calls.specs.declared.row.Name.TheVariants.{CreateIntent, GetIntent}
+use Rattle.ph_calls.specs.declared.row.Name.TheVariants.{CreateIntent, GetIntent, UpdateIntent, ConfirmIntent, CaptureIntent, CancelIntent, Authenticate}
 use Rattle.ph_calls.specs.declared.row.Param.{Param}
 use Rattle.ph_calls.specs.declared.row.Path.{Path}
 use Rattle.ph_calls.specs.declared.row.Path.TheVariants.{Plain, WithId}
@@ -47,6 +47,7 @@ table =
           must (codes "amount") Amount ∷
           must (codes "currency") Currency ∷
           may (codes "payment_method") Method ∷
+          may (codes "confirm") Truth ∷
           may (codes "capture_method") CaptureMethod ∷
           may (codes "description") (Text 1000) ∷
           may (codes "metadata") Metadata ∷
@@ -66,6 +67,50 @@ table =
       method = codes "GET";
       path = Between (codes "/v1/payment_intents/") [];
       params = [];
+      ignored = [];
+    } ∷
+    record {
+      call = UpdateIntent;
+      method = codes "POST";
+      path = Between (codes "/v1/payment_intents/") [];
+      params =
+          may (codes "amount") Amount ∷
+          may (codes "currency") Currency ∷
+          may (codes "payment_method") Method ∷
+          may (codes "description") (Text 1000) ∷
+          may (codes "metadata") Metadata ∷
+          may (codes "transfer_group") (Text 255) ∷ [];
+      ignored = [];
+    } ∷
+    record {
+      call = ConfirmIntent;
+      method = codes "POST";
+      path = Between (codes "/v1/payment_intents/") (codes "/confirm");
+      params = may (codes "payment_method") Method ∷ [];
+      ignored =
+          codes "return_url" ∷
+          codes "off_session" ∷
+          codes "use_stripe_sdk" ∷ [];
+    } ∷
+    record {
+      call = CaptureIntent;
+      method = codes "POST";
+      path = Between (codes "/v1/payment_intents/") (codes "/capture");
+      params = may (codes "amount_to_capture") Amount ∷ [];
+      ignored = [];
+    } ∷
+    record {
+      call = CancelIntent;
+      method = codes "POST";
+      path = Between (codes "/v1/payment_intents/") (codes "/cancel");
+      params = may (codes "cancellation_reason") CancellationReason ∷ [];
+      ignored = [];
+    } ∷
+    record {
+      call = Authenticate;
+      method = codes "POST";
+      path = Between (codes "/_host/payment_intents/") (codes "/authenticate");
+      params = must (codes "outcome") Authentication ∷ [];
       ignored = [];
     } ∷ []
 

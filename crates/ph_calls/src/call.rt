@@ -1,7 +1,7 @@
 //! The calls, each with what its request says.
 
 use ph_base::Bytes;
-use ph_kinds::Meta;
+use ph_kinds::{Authentication, Meta};
 use ph_money::{Amount, Currency};
 use ph_rows::{CancellationReason, CaptureMethod, PaymentMethod};
 
@@ -12,6 +12,8 @@ pub struct CreateIntent {
     pub amount: Amount,
     pub currency: Currency,
     pub payment_method: Option<PaymentMethod>,
+    /// Whether the payment intent is confirmed at once, with `payment_method`.
+    pub confirm: bool,
     pub capture_method: Option<CaptureMethod>,
     /// At most 1,000 characters.
     pub description: Option<Bytes>,
@@ -69,13 +71,6 @@ pub struct CancelIntent {
     pub cancellation_reason: Option<CancellationReason>,
 }
 
-/// What a customer's authentication comes to.
-#[derive(Clone, Copy, Debug, PartialEq, Eq)]
-pub enum Authentication {
-    Succeeded,
-    Failed,
-}
-
 /// `POST /_host/payment_intents/{id}/authenticate`: payhost's own, in place of the customer's bank.
 #[derive(Drop, Debug)]
 pub struct Authenticate {
@@ -89,4 +84,9 @@ pub struct Authenticate {
 pub enum Call {
     CreateIntent(CreateIntent),
     GetIntent(GetIntent),
+    UpdateIntent(UpdateIntent),
+    ConfirmIntent(ConfirmIntent),
+    CaptureIntent(CaptureIntent),
+    CancelIntent(CancelIntent),
+    Authenticate(Authenticate),
 }

@@ -13,7 +13,8 @@ mod table;
 mod tests;
 
 pub use call::{
-    Authenticate, Authentication, Call, CancelIntent, CaptureIntent, ConfirmIntent, CreateIntent,
-    GetIntent, UpdateIntent,
+    Authenticate, Call, CancelIntent, CaptureIntent, ConfirmIntent, CreateIntent, GetIntent,
+    UpdateIntent,
 };
+pub use ph_kinds::Authentication;
 pub use reading::read_call;

@@ -8,7 +8,10 @@ ghost use Rattle.ph_calls.specs.Table.{line_of};
 use crate::call::{Call, GetIntent};
 use crate::check::row_error;
 use crate::errors::fault_error;
-use crate::intents::{create_intent, create_intent_error};
+use crate::intents::{
+    authenticate_intent, cancel_intent, capture_intent, confirm_intent, create_intent,
+    create_intent_error, update_intent,
+};
 use crate::route::find_route;
 use crate::row::{Name, TableRow};
 use ph_base::Bytes;
@@ -33,6 +36,11 @@ fn make_call(alloc: Global, name: Name, id: &[u8], form: &Form) -> Result<Call, 
         Name::GetIntent => Ok(Call::GetIntent(GetIntent {
             id: Bytes::from_slice(alloc, id)?,
         })),
+        Name::UpdateIntent => Ok(Call::UpdateIntent(update_intent(alloc, id, form)?)),
+        Name::ConfirmIntent => Ok(Call::ConfirmIntent(confirm_intent(alloc, id, form)?)),
+        Name::CaptureIntent => Ok(Call::CaptureIntent(capture_intent(alloc, id, form)?)),
+        Name::CancelIntent => Ok(Call::CancelIntent(cancel_intent(alloc, id, form)?)),
+        Name::Authenticate => Ok(Call::Authenticate(authenticate_intent(alloc, id, form)?)),
     }
 }
 

@@ -7,6 +7,11 @@ use ph_kinds::Kind;
 pub enum Name {
     CreateIntent,
     GetIntent,
+    UpdateIntent,
+    ConfirmIntent,
+    CaptureIntent,
+    CancelIntent,
+    Authenticate,
 }
 
 /// The path of a call: one text, or an id between two texts.

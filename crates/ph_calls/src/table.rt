@@ -5,47 +5,42 @@ ghost use Rattle.ph_calls.specs.Table.{line_of, table};
 use crate::row::{Name, Param, Path, TableRow};
 use ph_kinds::Kind;
 
-static TABLE: [TableRow; 2] = [
+/// A parameter that has to be there.
+macro_rules! must {
+    ($name:literal, $kind:expr) => {
+        Param {
+            name: $name,
+            kind: $kind,
+            required: true,
+        }
+    };
+}
+
+/// A parameter that may be left out.
+macro_rules! may {
+    ($name:literal, $kind:expr) => {
+        Param {
+            name: $name,
+            kind: $kind,
+            required: false,
+        }
+    };
+}
+
+static TABLE: [TableRow; 7] = [
     TableRow {
         call: Name::CreateIntent,
         method: b"POST",
         path: Path::Plain(b"/v1/payment_intents"),
         params: &[
-            Param {
-                name: b"amount",
-                kind: Kind::Amount,
-                required: true,
-            },
-            Param {
-                name: b"currency",
-                kind: Kind::Currency,
-                required: true,
-            },
-            Param {
-                name: b"payment_method",
-                kind: Kind::Method,
-                required: false,
-            },
-            Param {
-                name: b"capture_method",
-                kind: Kind::CaptureMethod,
-                required: false,
-            },
-            Param {
-                name: b"description",
-                kind: Kind::Text(1000),
-                required: false,
-            },
-            Param {
-                name: b"metadata",
-                kind: Kind::Metadata,
-                required: false,
-            },
-            Param {
-                name: b"transfer_group",
-                kind: Kind::Text(255),
-                required: false,
-            },
+            must!(b"amount", Kind::Amount),
+            must!(b"currency", Kind::Currency),
+            may!(b"payment_method", Kind::Method),
+            may!(b"confirm", Kind::Truth),
+            may!(b"capture_method", Kind::CaptureMethod),
+            may!(b"description", Kind::Text(1000)),
+            may!(b"metadata", Kind::Metadata),
+            may!(b"transfer_group", Kind::Text(255)),
         ],
         ignored: &[
             b"automatic_payment_methods",
@@ -63,6 +58,48 @@ static TABLE: [TableRow; 2] = [
         method: b"GET",
         path: Path::WithId(b"/v1/payment_intents/", b""),
         params: &[],
+        ignored: &[],
+    },
+    TableRow {
+        call: Name::UpdateIntent,
+        method: b"POST",
+        path: Path::WithId(b"/v1/payment_intents/", b""),
+        params: &[
+            may!(b"amount", Kind::Amount),
+            may!(b"currency", Kind::Currency),
+            may!(b"payment_method", Kind::Method),
+            may!(b"description", Kind::Text(1000)),
+            may!(b"metadata", Kind::Metadata),
+            may!(b"transfer_group", Kind::Text(255)),
+        ],
+        ignored: &[],
+    },
+    TableRow {
+        call: Name::ConfirmIntent,
+        method: b"POST",
+        path: Path::WithId(b"/v1/payment_intents/", b"/confirm"),
+        params: &[may!(b"payment_method", Kind::Method)],
+        ignored: &[b"return_url", b"off_session", b"use_stripe_sdk"],
+    },
+    TableRow {
+        call: Name::CaptureIntent,
+        method: b"POST",
+        path: Path::WithId(b"/v1/payment_intents/", b"/capture"),
+        params: &[may!(b"amount_to_capture", Kind::Amount)],
+        ignored: &[],
+    },
+    TableRow {
+        call: Name::CancelIntent,
+        method: b"POST",
+        path: Path::WithId(b"/v1/payment_intents/", b"/cancel"),
+        params: &[may!(b"cancellation_reason", Kind::CancellationReason)],
+        ignored: &[],
+    },
+    TableRow {
+        call: Name::Authenticate,
+        method: b"POST",
+        path: Path::WithId(b"/_host/payment_intents/", b"/authenticate"),
+        params: &[must!(b"outcome", Kind::Authentication)],
         ignored: &[],
     },
 ];

@@ -1,5 +1,7 @@
 mod AnswerLemmas
 mod ItemFacts
+mod LiveLemmas
+mod PartLemmas
 mod ReadLemmas
 mod ServedLemmas
 mod SessionLemmas

@@ -1,3 +1,5 @@
+pub mod Parts
+pub mod Desks
 pub mod Answers
 pub mod Reads
 pub mod Served

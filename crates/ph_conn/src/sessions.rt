@@ -2,7 +2,7 @@
 ghost use Rattle.std.specs.Prelude.{◌≡◌, ℕ, ◌==◌, ◌||◌, ◌<◌, ◌+◌};
 ghost use Rattle.ph_io.specs.Told.{SourceState};
 ghost use Rattle.ph_book.specs.Legal.{IsLegal};
-ghost use Rattle.ph_book.specs.State.{BookState};
+ghost use Rattle.ph_conn.specs.Desks.{Desk};
 ghost use Rattle.ph_conn.specs.Sends.{IsWritable, Sends};
 ghost use Rattle.ph_conn.specs.Session.{Session};
 
@@ -11,6 +11,7 @@ use crate::endings::{Closed, Stop, TalkError};
 use crate::reads::{Fetched, fetch};
 use crate::rules::TalkRules;
 use crate::texts::{announce, close, part};
+use ph_bank::{Acquirer, Patience};
 use ph_base::NoMemory;
 use ph_book::Book;
 use ph_errors::Fixed;
@@ -19,21 +20,27 @@ use ph_io::{Sink, Source, WriteFailed, write_all};
 use std::alloc::Global;
 
 /// Answers requests until the session ends: each is read from the input, entered in the book as a call of caller 0,
-/// and its reply is written to the output before the next one is read.
+/// and its reply is written to the output before the next one is read. Where a call waits for a ruling, the link is
+/// asked while the patience lasts, and the ruling entered, or the run given up, before the reply.
 ///
 /// It ends where the input does, behind the reply to a request that asks for it, after as many replies as the rules
 /// allow, and with the closing reply of a request that can't be read. It breaks off where a read or a write fails,
 /// where the input ends within a request, where the book has no room for a request, which is answered by 503
 /// `history_full`, and for want of memory. Then 503 `no_memory` is written, unless the lost reply is that of a
-/// request that was entered.
-pub fn serve_solo<S: Source, K: Sink>(
+/// request that was entered; it is the reply to a request whose run was given up for want of memory.
+pub fn serve_solo<S: Source, K: Sink, A: Acquirer, P: Patience>(
     alloc: Global,
     book: &mut Book,
     input: &mut S,
     output: &mut K,
+    link: &mut A,
+    patience: &mut P,
     rules: &TalkRules,
 ) -> Result<Closed, TalkError>
-    ensures { Session result rules.now.limit book.old book.new (S.source input.old) (S.source input.new) (K.sink output.old) (K.sink output.new) }
+    ensures { Session result rules.now.limit
+        (record { book = book.old; link = A.link link.old; counts = P.counts patience.old })
+        (record { book = book.new; link = A.link link.new; counts = P.counts patience.new })
+        (S.source input.old) (S.source input.new) (K.sink output.old) (K.sink output.new) }
 {
     let _ = book.history();
     let mut talk = Talk::new(alloc);
@@ -51,7 +58,7 @@ pub fn serve_solo<S: Source, K: Sink>(
             Err(WriteFailed) => return Err(TalkError::WriteFault),
         }
         let asked = raw.close;
-        let outcome = answer(book, raw);
+        let outcome = answer(book, link, patience, raw);
         match send(alloc, output, outcome, is_last(asked, i, rules.limit)) {
             Ok(()) => {}
             Err(why) => return Err(why),
@@ -65,8 +72,8 @@ pub fn serve_solo<S: Source, K: Sink>(
 
 /// What a session does for whose book there is no memory: it reads nothing, and 503 `no_memory` is written.
 pub fn serve_none<K: Sink>(output: &mut K) -> TalkError
-    ensures { (limit : ℕ) (book : BookState) (input : SourceState) → IsLegal book.setup book.history
-        → Session (Err result) limit book book input input (K.sink output.old) (K.sink output.new) }
+    ensures { (limit : ℕ) (desk : Desk) (input : SourceState) → IsLegal desk.book.setup desk.book.history
+        → Session (Err result) limit desk desk input input (K.sink output.old) (K.sink output.new) }
 {
     part(output, Fixed::NoMemory, TalkError::NoMemory)
 }
@@ -108,6 +115,7 @@ fn send<K: Sink>(
             Err(NoMemory) => Err(TalkError::NoMemory),
         },
         Outcome::Full => Err(part(output, Fixed::HistoryFull, TalkError::Full)),
+        Outcome::Parked => Err(part(output, Fixed::NoMemory, TalkError::NoMemory)),
         Outcome::NoMemory => Err(part(output, Fixed::NoMemory, TalkError::NoMemory)),
     }
 }

@@ -1,6 +1,7 @@
 use crate::{Closed, Stop, TalkError, TalkRules, serve_none, serve_solo};
-use ph_base::{Bytes, NoMemory};
-use ph_book::{Book, Setup};
+use ph_bank::{SimAcquirer, Turns};
+use ph_base::{Bytes, NoMemory, Ruling, Why};
+use ph_book::{Book, Deed, Setup};
 use ph_io::{MemSink, MemSource};
 use std::alloc::Global;
 use std::test::Fail;
@@ -9,6 +10,12 @@ const NOTHING: &[u8] = b"";
 
 const CREATE: &[u8] =
     b"POST /v1/payment_intents HTTP/1.1\r\nHost: localhost\r\nAuthorization: Bearer sk_test_payhost\r\nContent-Length: 24\r\n\r\namount=2000&currency=usd";
+
+const CREATE_CONFIRMED: &[u8] =
+    b"POST /v1/payment_intents HTTP/1.1\r\nHost: localhost\r\nAuthorization: Bearer sk_test_payhost\r\nContent-Length: 65\r\n\r\namount=2000&currency=usd&payment_method=pm_card_visa&confirm=true";
+
+const CREATE_SLOW: &[u8] =
+    b"POST /v1/payment_intents HTTP/1.1\r\nHost: localhost\r\nAuthorization: Bearer sk_test_payhost\r\nContent-Length: 70\r\n\r\namount=2000&currency=usd&payment_method=pm_payhost_slow_3&confirm=true";
 
 const EXPECTING: &[u8] =
     b"POST /v1/payment_intents HTTP/1.1\r\nHost: localhost\r\nAuthorization: Bearer sk_test_payhost\r\nExpect: 100-continue\r\nContent-Length: 24\r\n\r\namount=2000&currency=usd";
@@ -30,6 +37,12 @@ const SECOND_INTENT: &[u8] =
 
 const SECOND_INTENT_LAST: &[u8] =
     b"HTTP/1.1 200 OK\r\nContent-Type: application/json\r\nContent-Length: 503\r\nConnection: close\r\n\r\n{\"amount\":2000,\"amount_capturable\":0,\"amount_received\":0,\"application_fee_amount\":null,\"cancellation_reason\":null,\"capture_method\":\"automatic\",\"client_secret\":\"pi_0000000000000004_secret_payhost\",\"created\":1700000000,\"currency\":\"usd\",\"description\":null,\"id\":\"pi_0000000000000004\",\"last_payment_error\":null,\"latest_charge\":null,\"livemode\":false,\"metadata\":{},\"next_action\":null,\"object\":\"payment_intent\",\"payment_method\":null,\"status\":\"requires_payment_method\",\"transfer_data\":null,\"transfer_group\":null}";
+
+const SUCCEEDED: &[u8] =
+    b"HTTP/1.1 200 OK\r\nContent-Type: application/json\r\nContent-Length: 502\r\n\r\n{\"amount\":2000,\"amount_capturable\":0,\"amount_received\":2000,\"application_fee_amount\":null,\"cancellation_reason\":null,\"capture_method\":\"automatic\",\"client_secret\":\"pi_0000000000000002_secret_payhost\",\"created\":1700000000,\"currency\":\"usd\",\"description\":null,\"id\":\"pi_0000000000000002\",\"last_payment_error\":null,\"latest_charge\":null,\"livemode\":false,\"metadata\":{},\"next_action\":null,\"object\":\"payment_intent\",\"payment_method\":\"pm_card_visa\",\"status\":\"succeeded\",\"transfer_data\":null,\"transfer_group\":null}";
+
+const PENDING_LAST: &[u8] =
+    b"HTTP/1.1 500 Internal Server Error\r\nContent-Type: application/json\r\nContent-Length: 103\r\nStripe-Should-Retry: true\r\nConnection: close\r\n\r\n{\"error\":{\"code\":\"acquirer_pending\",\"message\":\"The acquirer has not answered yet.\",\"type\":\"api_error\"}}";
 
 const CONTINUE: &[u8] = b"HTTP/1.1 100 Continue\r\n\r\n";
 
@@ -75,7 +88,18 @@ fn session(
 ) -> Result<(Result<Closed, TalkError>, Vec<u8>), NoMemory> {
     let mut input = MemSource::new(joined(alloc, parts)?, 4096, Vec::new(alloc));
     let mut output = MemSink::new(alloc, 4096, Vec::new(alloc));
-    let ended = serve_solo(alloc, book, &mut input, &mut output, &TalkRules { limit });
+    let mut link = SimAcquirer::new();
+    let mut patience = Turns::new(1000);
+    let rules = TalkRules { limit };
+    let ended = serve_solo(
+        alloc,
+        book,
+        &mut input,
+        &mut output,
+        &mut link,
+        &mut patience,
+        &rules,
+    );
     Ok((ended, Vec::from_slice(alloc, output.bytes())?))
 }
 
@@ -191,5 +215,67 @@ fn sessions_that_serve_nothing(rt: HostRuntime) -> Result<(), Fail> {
     let mut output = MemSink::new(alloc, 4096, Vec::new(alloc));
     assert_eq!(rt; serve_none(&mut output), TalkError::NoMemory);
     assert_eq!(rt; output.bytes(), NO_MEMORY);
+    Ok(())
+}
+
+// A call that waits takes two places, its own and that of the end of its run: of two in a book with room for three
+// entries the first is answered, and the second isn't entered.
+#[test]
+fn a_full_book_of_runs(rt: HostRuntime) -> Result<(), Fail> {
+    let alloc = rt.alloc();
+    let mut book = book(alloc, 3)?;
+    let (ended, written) = session(alloc, &mut book, &[CREATE_CONFIRMED, CREATE_CONFIRMED], 10)?;
+    assert_eq!(rt; ended, Err(TalkError::Full));
+    assert_eq!(rt;
+        written.as_slice(),
+        joined(alloc, &[SUCCEEDED, HISTORY_FULL])?.as_slice()
+    );
+    assert_eq!(rt; book.history().len(), 2);
+    assert!(rt;
+        book.history().get(1).is_some_and(|end| matches!(
+            end.deed,
+            Deed::Finish(1, Ruling::Approved)
+        ))
+    );
+    Ok(())
+}
+
+// The last reply of a session says so, where it is to a run that was given up too.
+#[test]
+fn a_run_given_up_at_the_limit(rt: HostRuntime) -> Result<(), Fail> {
+    let alloc = rt.alloc();
+    let mut book = book(alloc, 100)?;
+    let mut input = MemSource::new(
+        joined(alloc, &[CREATE_SLOW, CREATE])?,
+        4096,
+        Vec::new(alloc),
+    );
+    let mut output = MemSink::new(alloc, 4096, Vec::new(alloc));
+    let mut link = SimAcquirer::new();
+    let mut patience = Turns::new(2);
+    let rules = TalkRules { limit: 1 };
+    let ended = serve_solo(
+        alloc,
+        &mut book,
+        &mut input,
+        &mut output,
+        &mut link,
+        &mut patience,
+        &rules,
+    );
+    assert_eq!(rt;
+        ended,
+        Ok(Closed {
+            replies: 1,
+            stop: Stop::Limit
+        })
+    );
+    assert_eq!(rt; output.bytes(), PENDING_LAST);
+    assert_eq!(rt; book.history().len(), 2);
+    assert!(rt;
+        book.history()
+            .get(1)
+            .is_some_and(|end| matches!(end.deed, Deed::Park(1, Why::Pending)))
+    );
     Ok(())
 }

@@ -23,11 +23,21 @@ if_shown (Some moment) = if nat_le moment clock_limit then Some moment else None
 abbrev pub moment_in : List ℕ → Option ℕ
 moment_in value = if_shown (number_in value)
 
+-- so many polls, where a patience grants as many
+abbrev pub if_granted : Option ℕ → Option ℕ
+if_granted None = None
+if_granted (Some polls) = if nat_le polls 1000000 then Some polls else None
+
+-- the patience that a text is, in further polls of a drive
+abbrev pub patience_in : List ℕ → Option ℕ
+patience_in value = if_granted (number_in value)
+
 -- the option of this name takes the value
 unfoldable pub takes : List ℕ → List ℕ → Bool
 takes name value =
     bytes_eq name (codes "--key") && is_api_key value
     || bytes_eq name (codes "--clock") && is_some (moment_in value)
+    || bytes_eq name (codes "--patience") && is_some (patience_in value)
 
 -- the value that is given for the option of this name, where each option stands before its value
 abbrev pub given : List ℕ → List (List ℕ) → Option (List ℕ)

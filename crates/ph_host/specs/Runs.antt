@@ -1,7 +1,10 @@
 -- What the top call does.
 use Rattle.std.specs.Prelude.{◌≡◌, ℕ, List, [], Result, Ok, Err}
 use Rattle.ph_io.specs.Told.{SourceState, SinkState}
+use Rattle.ph_bank.specs.Links.{Link}
+use Rattle.ph_bank.specs.Patiences.{Granted}
 use Rattle.ph_book.specs.State.{BookState}
+use Rattle.ph_conn.specs.Desks.{Desk}
 use Rattle.ph_conn.specs.Session.{Session}
 use Rattle.ph_conn.specs.declared.endings.Closed.{Closed}
 use Rattle.ph_conn.specs.declared.endings.Stop.{Stop}
@@ -34,14 +37,18 @@ status_of (Err fault.Full) = 9
 abbrev pub new_book : List (List ℕ) → BookState
 new_book words = record { setup = setup_of words; history = [] }
 
+-- what that session begins with: the new book, and link and patience as they are
+abbrev pub new_desk : List (List ℕ) → Link → Granted → Desk
+new_desk words link counts = record { book = new_book words; link = link; counts = counts }
+
 -- one session was served from an empty history on, and its ending gives the status
-pub record Runs (words : List (List ℕ)) (status : ℕ) (input0 input1 : SourceState) (output0 output1 : SinkState) : Type 0 where
+pub record Runs (words : List (List ℕ)) (status : ℕ) (link0 link1 : Link) (counts0 counts1 : Granted) (input0 input1 : SourceState) (output0 output1 : SinkState) : Type 0 where
   pub ending : Result Closed TalkError
   pub book : BookState
   pub status_is : status ≡ status_of ending
-  pub session : Session ending session_limit (new_book words) book input0 input1 output0 output1
+  pub session : Session ending session_limit (new_desk words link0 counts0) (record { book = book; link = link1; counts = counts1 }) input0 input1 output0 output1
 
 -- the session that was served broke off at a request for which the book has no room
-pub record EndsFull (words : List (List ℕ)) (input0 input1 : SourceState) (output0 output1 : SinkState) : Type 0 where
+pub record EndsFull (words : List (List ℕ)) (link0 link1 : Link) (counts0 counts1 : Granted) (input0 input1 : SourceState) (output0 output1 : SinkState) : Type 0 where
   pub book : BookState
-  pub session : Session (Err fault.Full) session_limit (new_book words) book input0 input1 output0 output1
+  pub session : Session (Err fault.Full) session_limit (new_desk words link0 counts0) (record { book = book; link = link1; counts = counts1 }) input0 input1 output0 output1

@@ -1,12 +1,13 @@
 //! What the words of the command line ask for, and the top call that does it.
-ghost use Rattle.std.specs.Prelude.{◌≡◌};
+ghost use Rattle.std.specs.Prelude.{◌≡◌, ℕ};
 ghost use Rattle.ph_base.specs.Counts.{Rose};
-ghost use Rattle.ph_host.specs.Plans.{WritesUsage, plan_of};
+ghost use Rattle.ph_host.specs.Plans.{WritesUsage, patience_of, plan_of};
 ghost use Rattle.ph_host.specs.Runs.{EndsFull, Runs, status_of};
 
-use crate::options::are_options;
+use crate::options::{are_options, given, patience_in};
 use crate::plans::Plan;
-use crate::setups::book;
+use crate::setups::{book, options};
+use ph_bank::{Acquirer, Patience};
 use ph_base::{Bytes, NoMemory};
 use ph_conn::{Closed, Stop, TalkError, TalkRules, serve_none, serve_solo};
 use ph_io::{Sink, Source, write_all};
@@ -15,26 +16,43 @@ use std::alloc::Global;
 // How many requests the session of `stdio` serves.
 const LIMIT: u32 = 100_000;
 
+// How many further polls are granted where the words name none.
+const POLLS: u32 = 1_000;
+
 /// The plan that the words name, without the program's own name. It takes no memory.
 ///
-/// `stdio [--key K] [--clock T]` asks for a session over standard input and output. The options stand in any order,
+/// `stdio [--key K] [--clock T] [--patience N]` asks for a session over standard input and output. The options stand in any order,
 /// each at most once, and each takes the next word as its value. `K` is the API key, 9 to 255 bytes from `!` to `~`
 /// that begin with `sk_test_`, and `sk_test_payhost` where it isn't given. `T` is the opening moment in seconds since
-/// 1970, at most 253402300799, and 1700000000 where it isn't given. Any other words are `Usage`.
+/// 1970, at most 253402300799, and 1700000000 where it isn't given. `N` says how many further polls are granted each
+/// time that the acquirer is asked to rule, at most 1000000, and 1000 where it isn't given. Any other words are `Usage`.
 pub fn plan(words: &[Bytes]) -> Plan
     ensures { result ≡ plan_of words.now }
 {
     match words {
         [word, options @ ..] if word.as_slice() == b"stdio".as_slice() && are_options(options) =>
-            Plan::Once,
+            Plan::Once {
+                patience: patience(words),
+            },
         _ => Plan::Usage,
+    }
+}
+
+// How many further polls are granted.
+fn patience(words: &[Bytes]) -> u32
+    ensures { result ≡ patience_of words.now }
+{
+    match given(b"--patience", options(words)) {
+        Some(value) => patience_in(value).unwrap_or(POLLS),
+        None => POLLS,
     }
 }
 
 /// Runs what the words ask for over this input and output, and answers the exit status.
 ///
 /// `stdio` serves one session: requests are read to the end of the input, and each reply is written before the next
-/// request is read. The history has room for 200,000 entries and a weight of 536,870,912. The status is
+/// request is read. Where a request waits for the acquirer, the link is asked while the patience lasts. The history
+/// has room for 200,000 entries and a weight of 536,870,912. The status is
 ///
 /// | status | where |
 /// |---|---|
@@ -46,17 +64,20 @@ pub fn plan(words: &[Bytes]) -> Plan
 /// | 5 | the input ended within a request |
 /// | 6 | there was no memory |
 /// | 9 | the history had no room for a request |
-pub fn run_once<S: Source, K: Sink>(
+pub fn run_once<S: Source, K: Sink, A: Acquirer, P: Patience>(
     alloc: Global,
     words: &[Bytes],
     input: &mut S,
     output: &mut K,
+    link: &mut A,
+    patience: &mut P,
 ) -> u8
     // One session was served, whose ending gives the status.
-    ensures stdio { plan_of words.now ≡ Plan.Once →
-        Runs words.now result (S.source input.old) (S.source input.new) (K.sink output.old) (K.sink output.new) }
+    ensures stdio { (polls : ℕ) → plan_of words.now ≡ Plan.Once polls →
+        Runs words.now result (A.link link.old) (A.link link.new) (P.counts patience.old) (P.counts patience.new) (S.source input.old) (S.source input.new) (K.sink output.old) (K.sink output.new) }
 
     ensures usage { plan_of words.now ≡ Plan.Usage → (result ≡ 2)
+        × (A.link link.new ≡ A.link link.old) × (P.counts patience.new ≡ P.counts patience.old)
         × (S.source input.new ≡ S.source input.old) × WritesUsage (K.sink output.old) (K.sink output.new) }
 
     // A fault is answered only where the device counted one.
@@ -65,22 +86,29 @@ pub fn run_once<S: Source, K: Sink>(
 
     // A full history is answered only where the book has no room for the request that is refused.
     ensures full { result ≡ 9 →
-        EndsFull words.now (S.source input.old) (S.source input.new) (K.sink output.old) (K.sink output.new) }
+        EndsFull words.now (A.link link.old) (A.link link.new) (P.counts patience.old) (P.counts patience.new) (S.source input.old) (S.source input.new) (K.sink output.old) (K.sink output.new) }
 {
     match plan(words) {
         Plan::Usage => usage(output),
-        Plan::Once => stdio(alloc, words, input, output),
+        Plan::Once { .. } => stdio(alloc, words, input, output, link, patience),
     }
 }
 
 // Serves one session over a new book of the words' setup.
-fn stdio<S: Source, K: Sink>(alloc: Global, words: &[Bytes], input: &mut S, output: &mut K) -> u8
-    ensures { Runs words.now result (S.source input.old) (S.source input.new) (K.sink output.old) (K.sink output.new) }
+fn stdio<S: Source, K: Sink, A: Acquirer, P: Patience>(
+    alloc: Global,
+    words: &[Bytes],
+    input: &mut S,
+    output: &mut K,
+    link: &mut A,
+    patience: &mut P,
+) -> u8
+    ensures { Runs words.now result (A.link link.old) (A.link link.new) (P.counts patience.old) (P.counts patience.new) (S.source input.old) (S.source input.new) (K.sink output.old) (K.sink output.new) }
 {
     match book(alloc, words) {
         Ok(mut book) => {
             let rules = TalkRules { limit: LIMIT };
-            status(serve_solo(alloc, &mut book, input, output, &rules))
+            status(serve_solo(alloc, &mut book, input, output, link, patience, &rules))
         }
         Err(NoMemory) => status(Err(serve_none(output))),
     }

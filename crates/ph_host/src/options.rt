@@ -1,12 +1,15 @@
 //! The options of the command line.
 ghost use Rattle.std.specs.Prelude.{◌≡◌, option_map};
 ghost use Rattle.std.specs.List.{list_all};
-ghost use Rattle.ph_host.specs.Options.{are_options, given, is_api_key, is_option, is_visible, moment_in, takes};
+ghost use Rattle.ph_host.specs.Options.{are_options, given, is_api_key, is_option, is_visible, moment_in, patience_in, takes};
 
 use ph_base::{Bytes, read_number};
 
 /// The last moment that a clock shows: the end of the year 9999.
 pub const CLOCK_LIMIT: u64 = 253_402_300_799;
+
+// How many further polls a patience grants at most.
+const MOST_POLLS: u64 = 1_000_000;
 
 /// Whether the words are options, each before a value that it takes, and none given twice.
 pub fn are_options(words: &[Bytes]) -> bool
@@ -49,6 +52,7 @@ fn takes(name: &[u8], value: &[u8]) -> bool
 {
     name == b"--key".as_slice() && is_api_key(value)
         || name == b"--clock".as_slice() && moment_in(value).is_some()
+        || name == b"--patience".as_slice() && patience_in(value).is_some()
 }
 
 // Whether the value is an API key.
@@ -75,6 +79,18 @@ pub fn moment_in(value: &[u8]) -> Option<u64>
     let moment = read_number(value)?;
     if moment <= CLOCK_LIMIT {
         Some(moment)
+    } else {
+        None
+    }
+}
+
+/// The patience that a value is: how many further polls it grants, in decimal, at most 1,000,000.
+pub fn patience_in(value: &[u8]) -> Option<u32>
+    ensures { result ≡ patience_in value.now }
+{
+    let polls = read_number(value)?;
+    if polls <= MOST_POLLS {
+        Some(polls as u32)
     } else {
         None
     }

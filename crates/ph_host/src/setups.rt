@@ -31,8 +31,8 @@ pub fn book(alloc: Global, words: &[Bytes]) -> Result<Book, NoMemory>
     Book::new(alloc, setup)
 }
 
-// The words behind the command.
-fn options(words: &[Bytes]) -> &[Bytes]
+/// The words behind the command.
+pub fn options(words: &[Bytes]) -> &[Bytes]
     ensures { result.now ≡ drop 1 words.now }
 {
     match words {

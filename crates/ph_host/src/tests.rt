@@ -1,6 +1,9 @@
 //! Whole runs: words, the input's bytes, the output's bytes and the status.
 
-use crate::run_once;
+mod acquirer;
+
+use crate::{Plan, plan, run_once};
+use ph_bank::{SimAcquirer, Turns};
 use ph_base::{Bytes, NoMemory};
 use ph_io::{MemSink, MemSource};
 use std::alloc::Global;
@@ -138,6 +141,14 @@ fn joined(alloc: Global, parts: &[&[u8]]) -> Result<Vec<u8>, NoMemory> {
     Ok(all)
 }
 
+// How many further polls the words grant.
+fn turns(words: &[Bytes]) -> u64 {
+    match plan(words) {
+        Plan::Once { patience } => u64::from(patience),
+        Plan::Usage => 0,
+    }
+}
+
 // Runs the words on these parts, in reads of at most so many bytes, with the failing reads and writes of
 // these numbers, from 0; answers the status and what was written.
 fn run(
@@ -156,7 +167,16 @@ fn run(
     let writes = Vec::from_slice(alloc, failing_writes)?;
     let mut input = MemSource::new(joined(alloc, parts)?, most.max(1), reads);
     let mut output = MemSink::new(alloc, 4096, writes);
-    let status = run_once(alloc, list.as_slice(), &mut input, &mut output);
+    let mut link = SimAcquirer::new();
+    let mut patience = Turns::new(turns(list.as_slice()));
+    let status = run_once(
+        alloc,
+        list.as_slice(),
+        &mut input,
+        &mut output,
+        &mut link,
+        &mut patience,
+    );
     Ok((status, Vec::from_slice(alloc, output.bytes())?))
 }
 
@@ -392,7 +412,7 @@ fn options_of_stdio(rt: HostRuntime) -> Result<(), Fail> {
 #[test]
 fn words_of_no_plan(rt: HostRuntime) -> Result<(), Fail> {
     let alloc = rt.alloc();
-    let words: [&[&[u8]]; 15] = [
+    let words: [&[&[u8]]; 18] = [
         &[],
         &[b"serve"],
         &[b"STDIO"],
@@ -408,6 +428,9 @@ fn words_of_no_plan(rt: HostRuntime) -> Result<(), Fail> {
         &[b"stdio", b"--clock", b"253402300800"],
         &[b"stdio", b"--clock", b"-1"],
         &[b"stdio", b"--clock", b"0", b"--clock", b"0"],
+        &[b"stdio", b"--patience"],
+        &[b"stdio", b"--patience", b"1000001"],
+        &[b"stdio", b"--patience", b"+1"],
     ];
     for list in words {
         let (status, written) = run(alloc, list, &[CREATE], 4096, &[], &[])?;

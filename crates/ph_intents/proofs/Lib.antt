@@ -1,4 +1,7 @@
+mod EnterLemmas
 mod FollowLemmas
+mod FoundLemmas
 mod IdLemmas
 pub mod KeepsLemmas
+pub mod SettleLemmas
 mod TextLemmas

@@ -14,8 +14,8 @@ use Rattle.ph_rows.specs.Batches.{BatchState, last_place, with_row}
 use Rattle.ph_rows.specs.Rows.{latest_of}
 use Rattle.ph_intents.specs.Versions.{with_version}
 
--- a new attempt to have a payment intent paid, an amount by a method: live, its reference the next place, which will be its
--- number, and begun by the batch's entry
+-- a new attempt to have a payment intent paid, an amount by a method: live, its reference the next place, which will
+-- be its number, and begun by the batch's entry
 abbrev pub new_attempt : ℕ → ℕ → Currency → Method → BatchState → Attempt
 new_attempt intent amount currency method batch = record {
   intent = intent;

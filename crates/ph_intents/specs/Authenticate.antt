@@ -41,7 +41,9 @@ failed_intent error intent status = record intent {
 -- the failure of a payment intent's customer to authenticate, where its status waits for that
 abbrev pub fail_of : ℕ → BatchState → ℕ → Intent → Outcome
 fail_of account batch object intent =
-    if_allowed (λ status. adds_told account object (failed_intent payment_error.NotAuthenticated intent status) event.IntentPaymentFailed batch)
+    if_allowed (λ status.
+    adds_told account object (failed_intent payment_error.NotAuthenticated intent status) event.IntentPaymentFailed
+    batch)
     (next_status intent.status step.Fail)
 
 -- the failure to authenticate for the payment intent that the path names

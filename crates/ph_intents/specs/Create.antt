@@ -9,12 +9,12 @@ use Rattle.ph_rows.specs.declared.intents.Intent.{Intent}
 use Rattle.ph_rows.specs.declared.intents.IntentStatus.{IntentStatus}
 use Rattle.ph_rows.specs.declared.intents.IntentStatus.TheVariants as status
 use Rattle.ph_rows.specs.declared.intents.CaptureMethod.TheVariants as capture_method
-use Rattle.ph_rows.specs.declared.items.Item.TheVariants as item
 use Rattle.ph_rows.specs.declared.payment_methods.PaymentMethod.{PaymentMethod}
 use Rattle.ph_rows.specs.declared.event_kinds.EventKind.TheVariants as event
-use Rattle.ph_rows.specs.Batches.{BatchState, last_place, with_row, with_announced}
+use Rattle.ph_rows.specs.Batches.{BatchState, last_place, with_announced}
 use Rattle.ph_intents.specs.Attempts.{with_attempt}
 use Rattle.ph_intents.specs.Metadata.{first_metadata}
+use Rattle.ph_intents.specs.Versions.{with_version, adds_told}
 
 -- where a payment intent begins: it waits for a payment method, or for its confirmation where it has one
 abbrev pub first_status : Option PaymentMethod → IntentStatus
@@ -38,26 +38,29 @@ new_intent call status = record {
   transfer_group = call.transfer_group;
 }
 
--- the batch with the first version of a payment intent
-abbrev pub with_intent : ℕ → Intent → BatchState → BatchState
-with_intent account intent batch = with_row batch (last_place batch + 1) account (item.Intent intent)
-
 -- the create: the payment intent has the next place as its number, and is announced; it is never refused
 abbrev pub create_outcome : List Row → ℕ → CreateIntent → BatchState → Outcome
 create_outcome rows account call batch =
-    Adds (last_place batch + 1)
-    (with_announced (with_intent account (new_intent call (first_status call.payment_method)) batch) event.IntentCreated (last_place batch + 1))
+    adds_told account (last_place batch + 1) (new_intent call (first_status call.payment_method)) event.IntentCreated
+    batch
+
+-- the batch with a new payment intent of a number, and its attempt to be paid by a method
+abbrev pub with_both : ℕ → ℕ → Intent → Method → BatchState → BatchState
+with_both account object intent method batch =
+    with_attempt account object intent method (with_version account object intent batch)
 
 -- a new payment intent, which is announced, and its attempt to be paid by a method
 abbrev pub created_with : ℕ → Intent → Method → BatchState → Outcome
 created_with account intent method batch =
     Adds (last_place batch + 1)
-    (with_announced (with_attempt account (last_place batch + 1) intent method (with_intent account intent batch)) event.IntentCreated (last_place batch + 1))
+    (with_announced (with_both account (last_place batch + 1) intent method batch) event.IntentCreated
+    (last_place batch + 1))
 
 -- the create that is confirmed at once, with its payment method; without one it is refused as its request is
 abbrev pub create_by : ℕ → CreateIntent → BatchState → Option PaymentMethod → Outcome
 create_by account call batch None = Refuses (error_of (ParameterMissing (codes "payment_method")))
-create_by account call batch (Some method) = created_with account (new_intent call status.Processing) method.method batch
+create_by account call batch (Some method) =
+    created_with account (new_intent call status.Processing) method.method batch
 
 -- the create that is confirmed at once
 abbrev pub create_confirmed_outcome : List Row → ℕ → CreateIntent → BatchState → Outcome

@@ -67,10 +67,12 @@ MayBeEntered state key (Adds object batch) = AllMayFollow state (made_rows key b
 
 -- whatever stands, what a call adds may be entered, where its texts are UTF-8
 abbrev pub KeepsSound : {C : Type 0} → (C → List (List ℕ)) → (List Row → ℕ → C → BatchState → Outcome) → Type 0
-KeepsSound {C} texts outcome = (state : ViewState) (entry account : ℕ) (key : Option (List ℕ)) (call : C) → IsReady state key
+KeepsSound {C} texts outcome =
+    (state : ViewState) (entry account : ℕ) (key : Option (List ℕ)) (call : C) → IsReady state key
     → AreUtf8 (texts call) → MayBeEntered state key (outcome state.rows account call (batch_after state entry))
 
 -- whatever stands, what a ruling adds may be entered
 abbrev pub SettleKeepsSound : Type 0
-SettleKeepsSound = (state : ViewState) (entry attempt : ℕ) (ruling : Ruling) (key : Option (List ℕ)) → IsReady state key
+SettleKeepsSound =
+    (state : ViewState) (entry attempt : ℕ) (ruling : Ruling) (key : Option (List ℕ)) → IsReady state key
     → MayBeEntered state key (settle_outcome state.rows attempt ruling (batch_after state entry))

@@ -18,4 +18,5 @@ AddsAsked (Adds object batch) = IsUnder (last_place batch) (begun batch)
 
 -- whatever stands, each call that is accepted adds an attempt to be asked
 abbrev pub BegunIsAsked : {C : Type 0} → (List Row → ℕ → C → BatchState → Outcome) → Type 0
-BegunIsAsked {C} outcome = (rows : List Row) (account : ℕ) (call : C) (batch : BatchState) → AddsAsked (outcome rows account call batch)
+BegunIsAsked {C} outcome =
+    (rows : List Row) (account : ℕ) (call : C) (batch : BatchState) → AddsAsked (outcome rows account call batch)

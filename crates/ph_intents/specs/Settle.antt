@@ -46,7 +46,8 @@ approved_intent capture_method.Manual intent = held_intent intent
 -- a payment intent after a ruling on its attempt
 abbrev pub settled_intent : Ruling → Intent → Intent
 settled_intent ruling.Approved intent = approved_intent intent.capture_method intent
-settled_intent (ruling.Declined decline) intent = failed_intent (payment_error.Declined decline) intent status.RequiresPaymentMethod
+settled_intent (ruling.Declined decline) intent =
+    failed_intent (payment_error.Declined decline) intent status.RequiresPaymentMethod
 settled_intent ruling.Challenge intent = record intent { status = status.RequiresAction }
 
 -- what tells of an approval
@@ -74,8 +75,8 @@ with_settled ruling row attempt batch =
 abbrev pub settle_both : Ruling → Row → Attempt → Row → BatchState → Option Intent → Outcome
 settle_both ruling row attempt intent_row batch None = nothing batch
 settle_both ruling row attempt intent_row batch (Some intent) =
-    adds_told intent_row.account intent_row.object (settled_intent ruling intent) (settled_event ruling intent.capture_method)
-    (with_settled ruling row attempt batch)
+    adds_told intent_row.account intent_row.object (settled_intent ruling intent)
+    (settled_event ruling intent.capture_method) (with_settled ruling row attempt batch)
 
 -- a ruling on the attempt in a row, whose payment intent is in a row, where there is one
 abbrev pub settle_intent : Ruling → Row → Attempt → BatchState → Option Row → Outcome

@@ -1,4 +1,4 @@
--- Further versions of a payment intent in a batch.
+-- Versions of a payment intent in a batch.
 use Rattle.std.specs.Prelude.{ℕ}
 use Rattle.ph_calls.specs.Outcomes.{Outcome, Adds}
 use Rattle.ph_rows.specs.declared.intents.Intent.{Intent}
@@ -6,11 +6,11 @@ use Rattle.ph_rows.specs.declared.items.Item.TheVariants as item
 use Rattle.ph_rows.specs.declared.event_kinds.EventKind.{EventKind}
 use Rattle.ph_rows.specs.Batches.{BatchState, with_row, with_announced}
 
--- the batch with a further version of a payment intent, under an account
+-- the batch with a version of a payment intent, under an account
 abbrev pub with_version : ℕ → ℕ → Intent → BatchState → BatchState
 with_version account object intent batch = with_row batch object account (item.Intent intent)
 
--- the batch with a further version of a payment intent, which an event tells
+-- the batch with a version of a payment intent, which an event tells
 abbrev pub with_told : ℕ → ℕ → Intent → EventKind → BatchState → BatchState
 with_told account object intent sort batch = with_announced (with_version account object intent batch) sort object
 

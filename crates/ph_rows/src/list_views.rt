@@ -1,5 +1,5 @@
 //! A view that keeps its rows in a list and reads them one by one.
-ghost use Rattle.std.specs.Prelude.{◌≡◌, ◌<◌, ◌≤◌, ◌++◌, ◌^◌, length, [], OnOk, OnErr};
+ghost use Rattle.std.specs.Prelude.{◌≡◌, ◌<◌, ◌≤◌, ◌+◌, ◌∷◌, ◌++◌, ◌^◌, length, [], OnOk, OnErr};
 
 use crate::rows::Row;
 use crate::scans;
@@ -60,6 +60,7 @@ impl ListView {
         ensures time { self.new.time ≡ self.old.time }
         ensures rows { self.new.rows ≡ self.old.rows }
         ensures room { OnOk result (more ≤ self.new.room) }
+        ensures kept { self.old.room ≤ self.new.room }
     {
         if more > ListView::MOST - self.rows.len() {
             return Err(NoMemory);
@@ -73,11 +74,22 @@ impl ListView {
         requires { length more.items ≤ self.old.room }
         ensures time { self.new.time ≡ self.old.time }
         ensures rows { self.new.rows ≡ self.old.rows ++ more.items }
+        ensures room { self.old.room ≤ self.new.room + length more.items }
     {
         match self.rows.append(&mut more) {
             Ok(()) => {}
             Err(_) => unreachable!(),
         }
+    }
+
+    /// Adds a row for which there is room. It takes no memory.
+    pub fn push_reserved(&mut self, row: Row)
+        requires { 0 < self.old.room }
+        ensures time { self.new.time ≡ self.old.time }
+        ensures rows { self.new.rows ≡ self.old.rows ++ row ∷ [] }
+        ensures room { self.old.room ≡ self.new.room + 1 }
+    {
+        self.rows.push_reserved(row);
     }
 
     /// The rows in their order.

@@ -1,6 +1,6 @@
 //! What requests are answered.
 
-use super::shown::{KEY, create, each_is_answered, is_answered, large_book, raw};
+use super::shown::{End, KEY, create, each_is_answered, is_answered, large_book, raw};
 use super::tables;
 use crate::{Deed, history_is_legal, ids_differ};
 use ph_base::{Bytes, Kind, NoMemory};
@@ -50,6 +50,48 @@ fn each_parameter_is_shown(rt: HostRuntime) -> Result<(), Fail> {
     Ok(())
 }
 
+#[test]
+fn a_create_is_confirmed_at_once(rt: HostRuntime) -> Result<(), Fail> {
+    let mut book = large_book(rt.alloc())?;
+    each_is_answered(&rt, rt.alloc(), &mut book, tables::CONFIRMED_CREATE);
+    Ok(())
+}
+
+#[test]
+fn a_declined_payment_is_paid_by_another_method(rt: HostRuntime) -> Result<(), Fail> {
+    let mut book = large_book(rt.alloc())?;
+    each_is_answered(&rt, rt.alloc(), &mut book, tables::DECLINED_THEN_PAID);
+    Ok(())
+}
+
+#[test]
+fn a_held_payment_is_captured_in_part(rt: HostRuntime) -> Result<(), Fail> {
+    let mut book = large_book(rt.alloc())?;
+    each_is_answered(&rt, rt.alloc(), &mut book, tables::CAPTURED_LATER);
+    Ok(())
+}
+
+#[test]
+fn parked_payments_stay_in_processing(rt: HostRuntime) -> Result<(), Fail> {
+    let mut book = large_book(rt.alloc())?;
+    each_is_answered(&rt, rt.alloc(), &mut book, tables::PARKED);
+    Ok(())
+}
+
+#[test]
+fn a_customer_authenticates(rt: HostRuntime) -> Result<(), Fail> {
+    let mut book = large_book(rt.alloc())?;
+    each_is_answered(&rt, rt.alloc(), &mut book, tables::CHALLENGED);
+    Ok(())
+}
+
+#[test]
+fn payment_intents_change(rt: HostRuntime) -> Result<(), Fail> {
+    let mut book = large_book(rt.alloc())?;
+    each_is_answered(&rt, rt.alloc(), &mut book, tables::CHANGED);
+    Ok(())
+}
+
 const NO_KEY: &str =
     "{\"error\":{\"message\":\"Invalid API Key provided.\",\"type\":\"invalid_request_error\"}}";
 
@@ -80,24 +122,17 @@ fn the_key_comes_first_and_then_the_account(rt: HostRuntime) -> Result<(), Fail>
     let alloc = rt.alloc();
     let nobody = b"acct_0000000000000002";
     let request = without_key(alloc);
-    is_answered(&rt, &mut book, request, "401", NO_KEY, "no key");
+    is_answered(&rt, &mut book, request, End::AtOnce, "401", NO_KEY);
     let request = presenting(alloc, b"sk_test_other", nobody);
-    is_answered(&rt, &mut book, request, "401", NO_KEY, "another key");
+    is_answered(&rt, &mut book, request, End::AtOnce, "401", NO_KEY);
     let request = presenting(alloc, b"", b"");
-    is_answered(&rt, &mut book, request, "401", NO_KEY, "the empty key");
+    is_answered(&rt, &mut book, request, End::AtOnce, "401", NO_KEY);
     let request = presenting(alloc, KEY, nobody);
-    is_answered(
-        &rt,
-        &mut book,
-        request,
-        "404",
-        NO_ACCOUNT,
-        "another account",
-    );
+    is_answered(&rt, &mut book, request, End::AtOnce, "404", NO_ACCOUNT);
     let request = presenting(alloc, KEY, b"pi_0000000000000001");
-    is_answered(&rt, &mut book, request, "404", NO_ACCOUNT, "no account");
+    is_answered(&rt, &mut book, request, End::AtOnce, "404", NO_ACCOUNT);
     let request = presenting(alloc, KEY, b"acct_0000000000000001");
-    is_answered(&rt, &mut book, request, "404", NO_URL, "the platform");
+    is_answered(&rt, &mut book, request, End::AtOnce, "404", NO_URL);
     assert_eq!(rt; book.count(), 1);
     Ok(())
 }
@@ -109,9 +144,13 @@ fn a_book_shows_its_history_and_its_rows(rt: HostRuntime) -> Result<(), Fail> {
     each_is_answered(&rt, rt.alloc(), &mut book, table);
     match book.history().first() {
         Some(entry) => {
-            let Deed::Call(raw) = &entry.deed;
             assert_eq!(rt; entry.caller, 0);
-            assert_eq!(rt; raw.body.as_slice(), b"amount=2000&currency=usd".as_slice());
+            match &entry.deed {
+                Deed::Call(raw) => {
+                    assert_eq!(rt; raw.body.as_slice(), b"amount=2000&currency=usd".as_slice());
+                }
+                Deed::Finish(_, _) | Deed::Park(_, _) => assert!(rt; false),
+            }
         }
         None => assert!(rt; false),
     }

@@ -1,25 +1,26 @@
 //! Books that are full.
 
-use super::shown::{book, create};
+use super::runs::{Came, came_of, park};
+use super::shown::{End, book, confirmed, create};
 use crate::{Act, Answer, Book, Refused};
-use ph_base::NoMemory;
+use ph_base::{NoMemory, Ruling, Why};
 use ph_http::Raw;
 use ph_rows::View;
 use std::process::Abort;
 use std::test::Fail;
 
-// The create is answered with 200.
-fn has_room(rt: &impl Abort, book: &mut Book, raw: Result<Raw, NoMemory>) {
+// The request is answered with 200, at once or by the end of its run.
+fn has_room(rt: &impl Abort, book: &mut Book, raw: Result<Raw, NoMemory>, end: End) {
     match raw {
-        Ok(raw) => match book.apply(1, Act::Call(raw)) {
-            Ok(Answer::Reply(reply)) => assert_eq!(rt; reply.status, 200),
-            Err(_) => assert!(rt; false),
+        Ok(raw) => match came_of(book, raw, end) {
+            Came::Reply(reply) => assert_eq!(rt; reply.status, 200),
+            Came::Otherwise | Came::Refused => assert!(rt; false),
         },
         Err(NoMemory) => assert!(rt; false),
     }
 }
 
-// The create is refused as Full, comes back, and leaves so many entries and rows.
+// The request is refused as Full, and leaves so many entries and rows.
 fn is_full(
     rt: &impl Abort,
     book: &mut Book,
@@ -28,15 +29,19 @@ fn is_full(
     rows: u64,
 ) {
     match raw {
-        Ok(raw) => match book.apply(1, Act::Call(raw)) {
-            Err((act, refused)) => {
-                let Act::Call(raw) = act;
+        Ok(raw) => match book.apply(0, Act::Call(raw)) {
+            Err((Act::Call(raw), refused)) => {
                 assert_eq!(rt; refused, Refused::Full);
-                assert_eq!(rt; raw.body.as_slice(), b"amount=2000&currency=usd".as_slice());
+                assert!(rt; !raw.close);
                 assert_eq!(rt; book.history().len(), entries);
                 assert_eq!(rt; book.count(), rows);
             }
             Ok(Answer::Reply(_)) => assert!(rt; false),
+            Ok(Answer::Wait(ticket)) => {
+                park(book, ticket, Why::Pending);
+                assert!(rt; false);
+            }
+            Err(_) => unreachable!(),
         },
         Err(NoMemory) => assert!(rt; false),
     }
@@ -45,10 +50,19 @@ fn is_full(
 #[test]
 fn three_entries_take_two_calls(rt: HostRuntime) -> Result<(), Fail> {
     let mut full = book(rt.alloc(), 3, 536_870_912)?;
-    has_room(&rt, &mut full, create(rt.alloc()));
-    has_room(&rt, &mut full, create(rt.alloc()));
+    has_room(&rt, &mut full, create(rt.alloc()), End::AtOnce);
+    has_room(&rt, &mut full, create(rt.alloc()), End::AtOnce);
     is_full(&rt, &mut full, create(rt.alloc()), 2, 5);
     is_full(&rt, &mut full, create(rt.alloc()), 2, 5);
+    Ok(())
+}
+
+#[test]
+fn three_entries_take_one_call_that_waits(rt: HostRuntime) -> Result<(), Fail> {
+    let mut full = book(rt.alloc(), 3, 536_870_912)?;
+    let end = End::Finish(Ruling::Approved);
+    has_room(&rt, &mut full, confirmed(rt.alloc()), end);
+    is_full(&rt, &mut full, confirmed(rt.alloc()), 2, 7);
     Ok(())
 }
 
@@ -58,13 +72,13 @@ fn a_book_is_full_by_weight(rt: HostRuntime) -> Result<(), Fail> {
     let mut none = book(rt.alloc(), 10, 317)?;
     is_full(&rt, &mut none, create(rt.alloc()), 0, 1);
     let mut one = book(rt.alloc(), 10, 318)?;
-    has_room(&rt, &mut one, create(rt.alloc()));
+    has_room(&rt, &mut one, create(rt.alloc()), End::AtOnce);
     is_full(&rt, &mut one, create(rt.alloc()), 1, 3);
     let mut still_one = book(rt.alloc(), 10, 891)?;
-    has_room(&rt, &mut still_one, create(rt.alloc()));
+    has_room(&rt, &mut still_one, create(rt.alloc()), End::AtOnce);
     is_full(&rt, &mut still_one, create(rt.alloc()), 1, 3);
     let mut two = book(rt.alloc(), 10, 892)?;
-    has_room(&rt, &mut two, create(rt.alloc()));
-    has_room(&rt, &mut two, create(rt.alloc()));
+    has_room(&rt, &mut two, create(rt.alloc()), End::AtOnce);
+    has_room(&rt, &mut two, create(rt.alloc()), End::AtOnce);
     Ok(())
 }

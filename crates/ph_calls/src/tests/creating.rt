@@ -80,7 +80,6 @@ fn refusals_come_in_order(rt: HostRuntime) -> Result<(), Fail> {
 #[test]
 fn parameters_that_are_not_built_are_unknown(rt: HostRuntime) -> Result<(), Fail> {
     let table = "
-        amount=2000&currency=usd&confirm=true   400 parameter_unknown confirm
         application_fee_amount=1                400 parameter_unknown application_fee_amount
         transfer_data[destination]=x            400 parameter_unknown transfer_data[destination]
         transfer_data=x                         400 parameter_unknown transfer_data

@@ -1,35 +1,12 @@
 //! Methods and paths, and where the parameters stand.
 
 use super::shown::{is_read, raw};
+use std::alloc::Global;
+use std::process::Abort;
 use std::test::Fail;
 
-#[test]
-fn routes(rt: HostRuntime) -> Result<(), Fail> {
-    let alloc = rt.alloc();
-    // method, path, query, body, what it is read as
-    let table = "
-        POST /v1/payment_intents amount=2000 currency=usd  2000 usd
-        GET /v1/payment_intents/pi_0000000000000002 & &    get pi_0000000000000002
-        GET /v1/payment_intents/x expand[]=y &             get x
-        GET /v1/payment_intents/x foo=1 &                  400 parameter_unknown foo
-        GET /v1/payment_intents/x & amount=2000            400 parameter_unknown amount
-        GET /v1/payment_intents/x & a=1&a=2                400 - Repeated parameter at place 1.
-        GET /v1/payment_intents/x a=1 a=2                  400 - Repeated parameter at place 1.
-        GET /v1/payment_intents/ & &                       404 - Unrecognized request URL.
-        GET /v1/payment_intents/x/ & &                     404 - Unrecognized request URL.
-        GET /v1/payment_intents//x & &                     404 - Unrecognized request URL.
-        GET /v1/payment_intents/x/y & &                    404 - Unrecognized request URL.
-        GET /v1/payment_intents & &                        404 - Unrecognized request URL.
-        POST /v1/payment_intents/x & &                     404 - Unrecognized request URL.
-        POST /v1/payment_intents/ & &                      404 - Unrecognized request URL.
-        post /v1/payment_intents & &                       404 - Unrecognized request URL.
-        POST /V1/payment_intents & &                       404 - Unrecognized request URL.
-        POST v1/payment_intents & &                        404 - Unrecognized request URL.
-        POST http://h/v1/payment_intents & &               404 - Unrecognized request URL.
-        DELETE /v1/payment_intents/x & &                   404 - Unrecognized request URL.
-        POST /v1/refunds & [a]=1                           404 - Unrecognized request URL.
-        GET * & &                                          404 - Unrecognized request URL.
-    ";
+/// Each line is a method, a path, a query, a body, and what the request is read as.
+fn each_is_routed(rt: &impl Abort, alloc: Global, table: &str) {
     for line in table.lines() {
         let mut words = line.trim().splitn(5, ' ');
         match (
@@ -47,10 +24,94 @@ fn routes(rt: HostRuntime) -> Result<(), Fail> {
                     query.as_bytes(),
                     body.as_bytes(),
                 );
-                is_read(&rt, alloc, request, want.trim().as_bytes(), line);
+                is_read(rt, alloc, request, want.trim().as_bytes(), line);
             }
             _ => assert!(rt; line.trim().is_empty(), "{line}"),
         }
     }
+}
+
+#[test]
+fn routes(rt: HostRuntime) -> Result<(), Fail> {
+    let table = "
+        POST /v1/payment_intents amount=2000 currency=usd  2000 usd
+        GET /v1/payment_intents/pi_0000000000000002 & &    get pi_0000000000000002
+        GET /v1/payment_intents/x expand[]=y &             get x
+        GET /v1/payment_intents/x foo=1 &                  400 parameter_unknown foo
+        GET /v1/payment_intents/x & amount=2000            400 parameter_unknown amount
+        GET /v1/payment_intents/x & a=1&a=2                400 - Repeated parameter at place 1.
+        GET /v1/payment_intents/x a=1 a=2                  400 - Repeated parameter at place 1.
+        GET /v1/payment_intents/ & &                       404 - Unrecognized request URL.
+        GET /v1/payment_intents/x/ & &                     404 - Unrecognized request URL.
+        GET /v1/payment_intents//x & &                     404 - Unrecognized request URL.
+        GET /v1/payment_intents/x/y & &                    404 - Unrecognized request URL.
+        GET /v1/payment_intents & &                        404 - Unrecognized request URL.
+        POST /v1/payment_intents/x & &                     update x
+        POST /v1/payment_intents/ & &                      404 - Unrecognized request URL.
+        post /v1/payment_intents & &                       404 - Unrecognized request URL.
+        POST /V1/payment_intents & &                       404 - Unrecognized request URL.
+        POST v1/payment_intents & &                        404 - Unrecognized request URL.
+        POST http://h/v1/payment_intents & &               404 - Unrecognized request URL.
+        DELETE /v1/payment_intents/x & &                   404 - Unrecognized request URL.
+        POST /v1/refunds & [a]=1                           404 - Unrecognized request URL.
+        GET * & &                                          404 - Unrecognized request URL.
+    ";
+    each_is_routed(&rt, rt.alloc(), table);
+    Ok(())
+}
+
+#[test]
+fn routes_of_a_payment_intent(rt: HostRuntime) -> Result<(), Fail> {
+    let table = "
+        POST /v1/payment_intents/x & amount=2000                    update x amount=2000
+        POST /v1/payment_intents/x amount=2000 currency=usd         update x amount=2000 currency=usd
+        POST /v1/payment_intents/confirm & &                        update confirm
+        POST /v1/payment_intents/pi_0000000000000002/confirm & &    confirm pi_0000000000000002
+        POST /v1/payment_intents/confirm/confirm & &                confirm confirm
+        POST /v1/payment_intents/x/capture & &                      capture x
+        POST /v1/payment_intents/x/capture amount_to_capture=1 &    capture x amount=1
+        POST /v1/payment_intents/x/cancel & &                       cancel x
+        POST /_host/payment_intents/x/authenticate outcome=failed & authenticate x outcome=failed
+        POST /_host/payment_intents/pi_2/authenticate & outcome=succeeded authenticate pi_2 outcome=succeeded
+    ";
+    each_is_routed(&rt, rt.alloc(), table);
+    Ok(())
+}
+
+#[test]
+fn no_routes_of_a_payment_intent(rt: HostRuntime) -> Result<(), Fail> {
+    // Another method, no id, a segment more, another case, another front.
+    let table = "
+        PUT /v1/payment_intents/x & &                       404 - Unrecognized request URL.
+        GET /v1/payment_intents/x/confirm & &               404 - Unrecognized request URL.
+        GET /v1/payment_intents/x/capture & &               404 - Unrecognized request URL.
+        GET /v1/payment_intents/x/cancel & &                404 - Unrecognized request URL.
+        DELETE /v1/payment_intents/x/cancel & &             404 - Unrecognized request URL.
+        GET /_host/payment_intents/x/authenticate & &       404 - Unrecognized request URL.
+        POST /v1/payment_intents//confirm & &               404 - Unrecognized request URL.
+        POST /v1/payment_intents//capture & &               404 - Unrecognized request URL.
+        POST /v1/payment_intents//cancel & &                404 - Unrecognized request URL.
+        POST /_host/payment_intents//authenticate & &       404 - Unrecognized request URL.
+        POST /_host/payment_intents/authenticate & &        404 - Unrecognized request URL.
+        POST /v1/payment_intents/x/y & &                    404 - Unrecognized request URL.
+        POST /v1/payment_intents/x/y/confirm & &            404 - Unrecognized request URL.
+        POST /v1/payment_intents/x/confirm/y & &            404 - Unrecognized request URL.
+        POST /v1/payment_intents/x/confirm/ & &             404 - Unrecognized request URL.
+        POST /v1/payment_intents/x/y/capture & &            404 - Unrecognized request URL.
+        POST /v1/payment_intents/x/capture/y & &            404 - Unrecognized request URL.
+        POST /v1/payment_intents/x/y/cancel & &             404 - Unrecognized request URL.
+        POST /v1/payment_intents/x/cancel/y & &             404 - Unrecognized request URL.
+        POST /_host/payment_intents/x/y/authenticate & &    404 - Unrecognized request URL.
+        POST /_host/payment_intents/x/authenticate/y & &    404 - Unrecognized request URL.
+        POST /v1/payment_intents/x/Confirm & &              404 - Unrecognized request URL.
+        POST /v1/payment_intents/x/confirms & &             404 - Unrecognized request URL.
+        POST /v1/payment_intents/x/authenticate & &         404 - Unrecognized request URL.
+        POST /_host/payment_intents/x/confirm & &           404 - Unrecognized request URL.
+        POST /_host/payment_intents/x & &                   404 - Unrecognized request URL.
+        GET /_host/payment_intents/x & &                    404 - Unrecognized request URL.
+        POST /v1/payment_intents/x/confirm & [a]=1&foo=2    400 - Invalid parameter name at place 0.
+        POST /v1/payment_intents/x/confirms & [a]=1         404 - Unrecognized request URL.
+    ";
+    each_is_routed(&rt, rt.alloc(), table);
     Ok(())
 }

@@ -1,10 +1,15 @@
 //! What a request is read as, as a line of text.
 
-use crate::{Call, CreateIntent, read_call};
+use crate::{
+    Authenticate, Authentication, Call, CancelIntent, CaptureIntent, ConfirmIntent, CreateIntent,
+    UpdateIntent, read_call,
+};
 use ph_base::{Bytes, NoMemory};
 use ph_errors::{ApiError, Refusal};
 use ph_http::Raw;
 use ph_kinds::Meta;
+use ph_money::Amount;
+use ph_rows::PaymentMethod;
 use std::alloc::Global;
 use std::process::Abort;
 
@@ -43,14 +48,33 @@ fn add_metadata(shown: &mut Vec<u8>, metadata: &Option<Meta>) -> Result<(), NoMe
     }
 }
 
+fn add_amount(
+    alloc: Global,
+    shown: &mut Vec<u8>,
+    name: &[u8],
+    amount: Option<Amount>,
+) -> Result<(), NoMemory> {
+    match amount {
+        Some(amount) => add(shown, name, &number(alloc, amount.units())?),
+        None => Ok(()),
+    }
+}
+
+fn add_method(shown: &mut Vec<u8>, method: &Option<PaymentMethod>) -> Result<(), NoMemory> {
+    match method {
+        Some(named) => add(shown, b"method", named.text.as_slice()),
+        None => Ok(()),
+    }
+}
+
 /// A create as `AMOUNT CURRENCY`, and ` name=value` for each further parameter that it has.
 fn create_text(alloc: Global, call: &CreateIntent) -> Result<Vec<u8>, NoMemory> {
     let mut shown = number(alloc, call.amount.units())?;
     shown.push(b' ')?;
     shown.extend_from_slice(call.currency.code())?;
-    match &call.payment_method {
-        Some(named) => add(&mut shown, b"method", named.text.as_slice())?,
-        None => {}
+    add_method(&mut shown, &call.payment_method)?;
+    if call.confirm {
+        add(&mut shown, b"confirm", b"true")?;
     }
     match &call.capture_method {
         Some(method) => add(&mut shown, b"capture", method.text())?,
@@ -59,6 +83,59 @@ fn create_text(alloc: Global, call: &CreateIntent) -> Result<Vec<u8>, NoMemory> 
     add_text(&mut shown, b"description", &call.description)?;
     add_metadata(&mut shown, &call.metadata)?;
     add_text(&mut shown, b"group", &call.transfer_group)?;
+    Ok(shown)
+}
+
+/// A call on a payment intent as a word, its id, and ` name=value` for each parameter that it has.
+fn with_id(alloc: Global, word: &[u8], id: &Bytes) -> Result<Vec<u8>, NoMemory> {
+    let mut shown = Vec::from_slice(alloc, word)?;
+    shown.push(b' ')?;
+    shown.extend_from_slice(id.as_slice())?;
+    Ok(shown)
+}
+
+fn update_text(alloc: Global, call: &UpdateIntent) -> Result<Vec<u8>, NoMemory> {
+    let mut shown = with_id(alloc, b"update", &call.id)?;
+    add_amount(alloc, &mut shown, b"amount", call.amount)?;
+    match call.currency {
+        Some(currency) => add(&mut shown, b"currency", currency.code())?,
+        None => {}
+    }
+    add_method(&mut shown, &call.payment_method)?;
+    add_text(&mut shown, b"description", &call.description)?;
+    add_metadata(&mut shown, &call.metadata)?;
+    add_text(&mut shown, b"group", &call.transfer_group)?;
+    Ok(shown)
+}
+
+fn confirm_text(alloc: Global, call: &ConfirmIntent) -> Result<Vec<u8>, NoMemory> {
+    let mut shown = with_id(alloc, b"confirm", &call.id)?;
+    add_method(&mut shown, &call.payment_method)?;
+    Ok(shown)
+}
+
+fn capture_text(alloc: Global, call: &CaptureIntent) -> Result<Vec<u8>, NoMemory> {
+    let mut shown = with_id(alloc, b"capture", &call.id)?;
+    add_amount(alloc, &mut shown, b"amount", call.amount_to_capture)?;
+    Ok(shown)
+}
+
+fn cancel_text(alloc: Global, call: &CancelIntent) -> Result<Vec<u8>, NoMemory> {
+    let mut shown = with_id(alloc, b"cancel", &call.id)?;
+    match call.cancellation_reason {
+        Some(reason) => add(&mut shown, b"reason", reason.text())?,
+        None => {}
+    }
+    Ok(shown)
+}
+
+fn authenticate_text(alloc: Global, call: &Authenticate) -> Result<Vec<u8>, NoMemory> {
+    let mut shown = with_id(alloc, b"authenticate", &call.id)?;
+    let outcome = match call.outcome {
+        Authentication::Succeeded => b"succeeded".as_slice(),
+        Authentication::Failed => b"failed".as_slice(),
+    };
+    add(&mut shown, b"outcome", outcome)?;
     Ok(shown)
 }
 
@@ -98,19 +175,16 @@ pub fn raw(
     })
 }
 
-/// A word and an id.
-fn with_id(alloc: Global, word: &[u8], id: &Bytes) -> Result<Vec<u8>, NoMemory> {
-    let mut shown = Vec::from_slice(alloc, word)?;
-    shown.push(b' ')?;
-    shown.extend_from_slice(id.as_slice())?;
-    Ok(shown)
-}
-
 /// What a request is read as.
 fn read_text(alloc: Global, raw: &Raw) -> Result<Vec<u8>, NoMemory> {
     match read_call(alloc, raw) {
         Ok(Call::CreateIntent(call)) => create_text(alloc, &call),
         Ok(Call::GetIntent(call)) => with_id(alloc, b"get", &call.id),
+        Ok(Call::UpdateIntent(call)) => update_text(alloc, &call),
+        Ok(Call::ConfirmIntent(call)) => confirm_text(alloc, &call),
+        Ok(Call::CaptureIntent(call)) => capture_text(alloc, &call),
+        Ok(Call::CancelIntent(call)) => cancel_text(alloc, &call),
+        Ok(Call::Authenticate(call)) => authenticate_text(alloc, &call),
         Err(Refusal::Api(error)) => error_text(alloc, &error),
         Err(Refusal::NoMemory) => Err(NoMemory),
     }

@@ -1,5 +1,3 @@
-use Rattle.std.proofs.Common.{◌∙◌, ap}
-use Rattle.std.specs.Str.{bytes_eq}
 use Rattle.ph_views.specs.Values.{printed_id}
 use Rattle.ph_book.proofs.calls.is_platform.Goals as goal
 

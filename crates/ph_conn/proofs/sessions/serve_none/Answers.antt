@@ -2,4 +2,4 @@ use Rattle.ph_conn.proofs.SessionLemmas.{none_served}
 use Rattle.ph_conn.proofs.sessions.serve_none.Goals as goal
 
 pub returns : goal.returns
-returns g c = λ limit book input legal. none_served _ limit book input legal c.part.ensures
+returns g c = λ limit desk input legal. none_served _ limit desk input legal c.part.ensures

@@ -3,7 +3,7 @@ use Rattle.ph_conn.proofs.SessionLemmas.{answered, begins, breaks_off, closing_s
 use Rattle.ph_conn.proofs.sessions.serve_solo.Goals as goal
 
 pub loop-i-init : goal.loop-i-init
-loop-i-init g c = rw c.new-talk.ensures (begins c.args.rules.now.limit c.args.book.now (g.S.Source.source c.args.input.now) (g.K.Sink.sink c.args.output.now) c.history.ensures.legal)
+loop-i-init g c = rw c.new-talk.ensures (begins c.args.rules.now.limit (record { book = c.args.book.now; link = g.A.Acquirer.link c.args.link.now; counts = g.P.Patience.counts c.args.patience.now }) (g.S.Source.source c.args.input.now) (g.K.Sink.sink c.args.output.now) c.history.ensures.legal)
 
 pub close-requires : goal.close-requires
 close-requires g c = record { closing = closing_status _ _ _ c.in-Close.ensures.item }

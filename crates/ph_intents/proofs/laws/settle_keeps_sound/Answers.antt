@@ -1,4 +1,4 @@
-use Rattle.ph_intents.proofs.KeepsLemmas.{settle_keeps}
+use Rattle.ph_intents.proofs.SettleLemmas.{settle_keeps}
 use Rattle.ph_intents.proofs.laws.settle_keeps_sound.Goals as goal
 
 pub returns : goal.returns

@@ -1,69 +1,40 @@
-use Rattle.std.proofs.Common.{refl, ap, ◌∙◌, ◌++◌, ◌∷◌, [], ◌+◌}
-use Rattle.ph_book.specs.declared.acts.Entry.{Entry}
+use Rattle.std.proofs.Common.{ap, ◌∙◌, ◌+◌, length, arith}
 use Rattle.ph_book.specs.declared.acts.Deed.TheVariants as deed
-use Rattle.ph_book.specs.declared.acts.Answer.TheVariants as answer
-use Rattle.ph_rows.specs.Weights.{rows_weight}
-use Rattle.ph_book.specs.Legal.{raw_weight}
-use Rattle.ph_book.proofs.HistoryLemmas.{full_is, no_room, has_room, book_is, book_more, may_come, answer_is}
-use Rattle.ph_book.proofs.StatusLemmas.{reply_status}
+use Rattle.ph_book.proofs.HistoryLemmas.{full_is, has_room, no_room}
+use Rattle.ph_book.proofs.StepLemmas.{called_is}
 use Rattle.ph_book.proofs.book.Book.call.Goals as goal
 
 pub returns-then-is_full-clause-full : goal.returns-then-is_full-clause-full
 returns-then-is_full-clause-full c =
-    let test = full_is _ _ _ _ _ _ _ (deed.Call c.args.raw) _ c.self.view_is c.self.invariant (c.len-used.ensures ∙ c.self.inside.entries.ok.0) c.is_full.ensures in
+    let used = ap (λ n. n + c.self.inside.live) (c.len.ensures ∙ c.self.inside.entries.ok.0) in
+    let test = full_is _ _ _ _ _ _ _ _ _ (deed.Call c.args.raw) _ c.self.view_is c.self.invariant.0 used c.is_full.ensures in
     no_room _ _ test c.if-is_full.true
+
+pub enter_called-requires-clause-room : goal.enter_called-requires-clause-room
+enter_called-requires-clause-room c =
+    let used = ap (λ n. n + c.self.inside.live) (c.len.ensures ∙ c.self.inside.entries.ok.0) in
+    let test = full_is _ _ _ _ _ _ _ _ _ (deed.Call c.args.raw) _ c.self.view_is c.self.invariant.0 used c.is_full.ensures in
+    test ∙ c.if-is_full.false
+
+pub enter_called-requires-clause-called : goal.enter_called-requires-clause-called
+enter_called-requires-clause-called c =
+    let place = ap (λ n. n + 1) (c.len-2.ensures ∙ c.self.inside.entries.ok.0) in
+    called_is _ _ _ _ _ _ _ _ _ c.args.caller c.args.raw _ c.self.view_is c.self.invariant.0 place (c.in-Ok.ensures c.args.caller)
+
+pub returns-in-Ok-enter_called-clause-room : goal.returns-in-Ok-enter_called-clause-room
+returns-in-Ok-enter_called-clause-room c =
+    let used = ap (λ n. n + c.self.inside.live) (c.len.ensures ∙ c.self.inside.entries.ok.0) in
+    let test = full_is _ _ _ _ _ _ _ _ _ (deed.Call c.args.raw) _ c.self.view_is c.self.invariant.0 used c.is_full.ensures in
+    test ∙ c.if-is_full.false
+
+pub returns-in-Err-enter_called-clause-full : goal.returns-in-Err-enter_called-clause-full
+returns-in-Err-enter_called-clause-full c =
+    let used = ap (λ n. n + c.self.inside.live) (c.len.ensures ∙ c.self.inside.entries.ok.0) in
+    let test = full_is _ _ _ _ _ _ _ _ _ (deed.Call c.args.raw) _ c.self.view_is c.self.invariant.0 used c.is_full.ensures in
+    has_room _ (test ∙ c.if-is_full.false)
 
 pub returns-in-Err-clause-full : goal.returns-in-Err-clause-full
 returns-in-Err-clause-full c =
-    let test = full_is _ _ _ _ _ _ _ (deed.Call c.args.raw) _ c.self.view_is c.self.invariant (c.len-used.ensures ∙ c.self.inside.entries.ok.0) c.is_full.ensures in
-    has_room _ _ test c.if-is_full.false
-
-pub returns-in_default-clause-full : goal.returns-in_default-clause-full
-returns-in_default-clause-full c =
-    let test = full_is _ _ _ _ _ _ _ (deed.Call c.args.raw) _ c.self.view_is c.self.invariant (c.len-used.ensures ∙ c.self.inside.entries.ok.0) c.is_full.ensures in
-    has_room _ _ test c.if-is_full.false
-
-pub returns-then-is_err-clause-full : goal.returns-then-is_err-clause-full
-returns-then-is_err-clause-full c =
-    let test = full_is _ _ _ _ _ _ _ (deed.Call c.args.raw) _ c.self.view_is c.self.invariant (c.len-used.ensures ∙ c.self.inside.entries.ok.0) c.is_full.ensures in
-    has_room _ _ test c.if-is_full.false
-
-pub returns-then-is_err-2-clause-full : goal.returns-then-is_err-2-clause-full
-returns-then-is_err-2-clause-full c =
-    let test = full_is _ _ _ _ _ _ _ (deed.Call c.args.raw) _ c.self.view_is c.self.invariant (c.len-used.ensures ∙ c.self.inside.entries.ok.0) c.is_full.ensures in
-    has_room _ _ test c.if-is_full.false
-
-pub invariant_of-self : goal.invariant_of-self
-invariant_of-self c = book_is _ _ _ _ _ _ _ _ _ c.self.invariant c.reserve.ensures.items refl refl refl
-
-pub invariant_of-self-then-is_err-2 : goal.invariant_of-self-then-is_err-2
-invariant_of-self-then-is_err-2 c =
-    book_is _ _ _ _ _ _ _ _ _ c.self.invariant c.reserve.ensures.items c.reserve-2.ensures.rows c.reserve-2.ensures.time refl
-
-pub invariant_of-self-2 : goal.invariant_of-self-2
-invariant_of-self-2 c =
-    let entry : Entry = record { caller = c.args.caller; deed = deed.Call c.args.raw } in
-    let test = full_is _ _ _ _ _ _ _ (deed.Call c.args.raw) _ refl c.self.invariant (c.len-used.ensures ∙ c.self.inside.entries.ok.0) c.is_full.ensures in
-    let allowed = may_come _ _ c.args.caller (deed.Call c.args.raw) c.requires.caller (test ∙ c.if-is_full.false) in
-    let place = ap (λ n. n + 1) (c.len-used.ensures ∙ c.self.inside.entries.ok.0) in
-    book_is _ _ _ _ _ _ _ _ _ (book_more _ _ _ _ _ _ entry c.self.invariant place allowed)
-    (c.push_reserved.ensures.items ∙ ap (λ history. history ++ entry ∷ []) c.reserve.ensures.items)
-    (c.append_reserved.ensures.rows ∙ ap (λ rows. rows ++ c.in-Ok.called.rows.items) c.reserve-2.ensures.rows
-    ∙ ap (λ made. c.self.inside.view.rows ++ made) c.in-Ok.ensures.rows)
-    (c.append_reserved.ensures.time ∙ c.reserve-2.ensures.time)
-    (c.in-Some.ensures.1
-    ∙ ap (λ made. (c.self.inside.weight + raw_weight c.args.raw) + rows_weight made) (c.as_slice.ensures.value ∙ c.in-Ok.ensures.rows))
-
-pub returns-clause-answer : goal.returns-clause-answer
-returns-clause-answer c =
-    let entry : Entry = record { caller = c.args.caller; deed = deed.Call c.args.raw } in
-    let place = ap (λ n. n + 1) (c.len-used.ensures ∙ c.self.inside.entries.ok.0) in
-    answer_is _ _ _ _ _ _ _ entry _ c.self.view_is c.self.invariant place (ap answer.Reply c.in-Ok.ensures.reply)
-
-pub returns-clause-status : goal.returns-clause-status
-returns-clause-status c = reply_status _ _ _ _ _ _ c.in-Ok.ensures.reply
-
-pub returns-clause-room : goal.returns-clause-room
-returns-clause-room c =
-    let test = full_is _ _ _ _ _ _ _ (deed.Call c.args.raw) _ c.self.view_is c.self.invariant (c.len-used.ensures ∙ c.self.inside.entries.ok.0) c.is_full.ensures in
-    test ∙ c.if-is_full.false
+    let used = ap (λ n. n + c.self.inside.live) (c.len.ensures ∙ c.self.inside.entries.ok.0) in
+    let test = full_is _ _ _ _ _ _ _ _ _ (deed.Call c.args.raw) _ c.self.view_is c.self.invariant.0 used c.is_full.ensures in
+    has_room _ (test ∙ c.if-is_full.false)

@@ -1,8 +1,11 @@
-use Rattle.std.proofs.Common.{[], refl}
+use Rattle.std.proofs.Common.{[], refl, ap, ◌∙◌, length, arith}
 use Rattle.ph_book.proofs.HistoryLemmas.{book_is, book_new}
 use Rattle.ph_book.proofs.book.Book.new.Goals as goal
 
 pub invariant_of-result : goal.invariant_of-result
 invariant_of-result c =
-    book_is c.args.setup [] _ _ _ _ _ 256 256 (book_new c.args.setup c.requires.opened)
-    c.new.ensures.items c.in_ok-view.ensures.rows c.in_ok-view.ensures.time refl
+    let none = ap length c.new.ensures.items in (
+      book_is c.args.setup [] _ _ _ _ _ 256 256 _ _ 0 (book_new c.args.setup c.requires.opened)
+          c.new.ensures.items c.in_ok-view.ensures.rows c.in_ok-view.ensures.time refl c.new-2.ensures,
+      record { for_entries = omega (arith, none); for_rows = omega arith; for_replies = omega arith; for_weight = omega arith },
+    )

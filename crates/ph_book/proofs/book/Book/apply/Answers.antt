@@ -1,0 +1,58 @@
+use Rattle.std.proofs.Common.{◌≡◌, ◌+◌, false, length, sym, subst, IsTrue}
+use Rattle.ph_http.specs.declared.message.Reply.{Reply}
+use Rattle.ph_http.specs.Replies.{is_status}
+use Rattle.ph_book.specs.declared.acts.Act.{Act}
+use Rattle.ph_book.specs.declared.acts.Answer.TheVariants as answer
+use Rattle.ph_book.specs.Answers.{IsAnswerTo}
+use Rattle.ph_book.specs.Entries.{deed_of, finish_entry, park_entry}
+use Rattle.ph_book.specs.Legal.{is_full}
+use Rattle.ph_book.proofs.EffectLemmas.{park_status, reply_served, said_to_call, said_to_finish, says_reply, says_served}
+use Rattle.ph_book.proofs.HistoryLemmas.{has_room, replies_grow}
+use Rattle.ph_book.proofs.StepLemmas.{finish_room, park_room}
+use Rattle.ph_book.proofs.book.Book.apply.Goals as goal
+
+pub returns-in-Ok-clause-kind : goal.returns-in-Ok-clause-kind
+returns-in-Ok-clause-kind c =
+    let served = said_to_call c.args.self.now.setup c.args.self.now.history c.args.caller c.in-Call.raw in
+    subst (λ (act : Act). IsAnswerTo act c.in-Ok.answer) (sym c.in-Call.is) (says_served _ _ _ c.in-Ok.answer served c.in-Ok.ensures.answer).1
+
+pub returns-in-Ok-clause-status : goal.returns-in-Ok-clause-status
+returns-in-Ok-clause-status c =
+    let served = said_to_call c.args.self.now.setup c.args.self.now.history c.args.caller c.in-Call.raw in
+    (says_served _ _ _ c.in-Ok.answer served c.in-Ok.ensures.answer).0
+
+pub returns-in-Ok-finish-clause-kind : goal.returns-in-Ok-finish-clause-kind
+returns-in-Ok-finish-clause-kind c =
+    let served = said_to_finish c.args.self.now.setup c.args.self.now.history c.args.caller c.in-Finish.ticket c.in-Finish.ruling in
+    subst (λ (act : Act). IsAnswerTo act (answer.Reply c.in-Ok-finish.reply)) (sym c.in-Finish.is)
+    (tt, (reply_served _ c.in-Ok-finish.reply served c.in-Ok-finish.ensures.said).1)
+
+pub returns-in-Ok-finish-clause-status : goal.returns-in-Ok-finish-clause-status
+returns-in-Ok-finish-clause-status c =
+    let served = said_to_finish c.args.self.now.setup c.args.self.now.history c.args.caller c.in-Finish.ticket c.in-Finish.ruling in
+    (reply_served _ c.in-Ok-finish.reply served c.in-Ok-finish.ensures.said).0
+
+pub returns-in-Ok-finish-clause-replies : goal.returns-in-Ok-finish-clause-replies
+returns-in-Ok-finish-clause-replies c =
+    replies_grow c.args.self.now c.finish.new.self 0 c.args.caller (finish_entry c.args.caller c.in-Finish.ticket c.in-Finish.ruling) (answer.Reply c.in-Ok-finish.reply)
+    c.in-Ok-finish.ensures.entry (says_reply 0 c.args.caller _ c.in-Ok-finish.reply c.in-Ok-finish.ensures.said)
+
+pub returns-in-Ok-finish-clause-room : goal.returns-in-Ok-finish-clause-room
+returns-in-Ok-finish-clause-room c =
+    subst (λ (act : Act). is_full c.args.self.now.setup c.args.self.now.history (deed_of act) ≡ false) (sym c.in-Finish.is) (finish_room _ _ _ _)
+
+pub returns-in-Err-finish-clause-full : goal.returns-in-Err-finish-clause-full
+returns-in-Err-finish-clause-full c =
+    has_room _ (subst (λ (act : Act). is_full c.args.self.now.setup c.args.self.now.history (deed_of act) ≡ false) (sym c.in-Finish.is) (finish_room _ _ _ _))
+
+pub returns-in-Park-clause-status : goal.returns-in-Park-clause-status
+returns-in-Park-clause-status c = subst (λ (reply : Reply). IsTrue (is_status reply.status)) (sym c.park.ensures.reply) (park_status c.in-Park.why)
+
+pub returns-in-Park-clause-replies : goal.returns-in-Park-clause-replies
+returns-in-Park-clause-replies c =
+    replies_grow c.args.self.now c.park.new.self 0 c.args.caller (park_entry c.args.caller c.in-Park.ticket c.in-Park.why) (answer.Reply c.park.result)
+    c.park.ensures.entry (says_reply 0 c.args.caller _ c.park.result c.park.ensures.said)
+
+pub returns-in-Park-clause-room : goal.returns-in-Park-clause-room
+returns-in-Park-clause-room c =
+    subst (λ (act : Act). is_full c.args.self.now.setup c.args.self.now.history (deed_of act) ≡ false) (sym c.in-Park.is) (park_room _ _ _ _)

@@ -1,0 +1,26 @@
+use Rattle.std.proofs.Common.{refl, ap, ◌∙◌, ◌++◌, ◌∷◌, ◌+◌, [], None, length, length-append, arith}
+use Rattle.ph_rows.specs.Weights.{rows_weight}
+use Rattle.ph_book.specs.Entries.{call_entry}
+use Rattle.ph_book.specs.Legal.{raw_weight}
+use Rattle.ph_book.proofs.HistoryLemmas.{book_is}
+use Rattle.ph_book.proofs.StepLemmas.{call_book}
+use Rattle.ph_book.proofs.book.Book.enter.Goals as goal
+
+pub invariant_of-self-2 : goal.invariant_of-self-2
+invariant_of-self-2 c =
+    let book = c.self.invariant.0 in
+    let room = c.self.invariant.1 in
+    let entries = c.push_reserved.ensures.items ∙ ap (λ history. history ++ call_entry c.args.caller c.args.raw ∷ []) c.in-Ok.ensures.entries in
+    let weight = c.in-Some.ensures.0 ∙ ap (λ rows. (c.self.inside.weight + raw_weight c.args.raw) + rows_weight rows) c.as_slice.ensures.value in
+    let count = ap length c.push_reserved.ensures.items ∙ length-append c.take_room.new.entries.items (call_entry c.args.caller c.args.raw ∷ []) in (
+      book_is _ _ _ _ _ _ _ _ _ _ _ _
+          (call_book _ _ _ _ _ _ _ _ c.args.caller c.args.raw c.args.rows.items None _ c.self.view_is book c.requires.caller c.requires.room c.requires.rows c.requires.step book.live_is)
+          entries (c.append_reserved.ensures.rows ∙ ap (λ rows. rows ++ c.args.rows.items) c.in-Ok.ensures.rows)
+          (c.append_reserved.ensures.time ∙ c.in-Ok.ensures.time) weight refl,
+      record {
+        for_entries = omega (arith, count, c.in-Ok.ensures.entries_room, c.push_reserved.ensures.capacity);
+        for_rows = omega (arith, c.in-Ok.ensures.rows_room, c.append_reserved.ensures.room, c.args.rows.ok.0, c.len.ensures);
+        for_replies = room.for_replies;
+        for_weight = c.in-Some.ensures.1;
+      },
+    )

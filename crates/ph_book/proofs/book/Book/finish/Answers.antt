@@ -1,0 +1,54 @@
+use Rattle.std.proofs.Common.{refl, sym, ap, ◌∙◌, ◌++◌, ◌∷◌, ◌+◌, [], length, length-append, arith}
+use Rattle.ph_rows.specs.declared.orders.Order.{Order}
+use Rattle.ph_rows.specs.Batches.{empty_batch}
+use Rattle.ph_rows.specs.Weights.{rows_weight}
+use Rattle.ph_intents.specs.Settle.{settle_outcome}
+use Rattle.ph_book.specs.declared.acts.Entry.{Entry}
+use Rattle.ph_book.specs.declared.acts.Deed.TheVariants as deed
+use Rattle.ph_book.specs.History.{Effect, outcome_rows}
+use Rattle.ph_book.specs.Replies.{Replies, ruling_reply}
+use Rattle.ph_book.proofs.HistoryLemmas.{book_is}
+use Rattle.ph_book.proofs.StepLemmas.{finish_book, finish_is, held_entry, held_live}
+use Rattle.ph_book.proofs.book.Book.finish.Goals as goal
+
+pub one_less-live-requires : goal.one_less-live-requires
+one_less-live-requires c = held_live _ _ _ _ _ _ _ _ c.args.caller c.args.ticket c.self.view_is c.self.invariant.0 c.requires.own
+
+pub settle-requires : goal.settle-requires
+settle-requires c = record { live = held_entry _ _ _ _ _ _ _ _ c.args.caller c.args.ticket c.self.view_is c.self.invariant.0 c.requires.own }
+
+pub invariant_of-self-2 : goal.invariant_of-self-2
+invariant_of-self-2 c =
+    let view = c.self.inside.view in
+    let room = c.self.invariant.1 in
+    let place = ap (λ n. n + 1) (c.len.ensures ∙ c.self.inside.entries.ok.0) in
+    let made = ap (λ (o : Order). outcome_rows (settle_outcome view.rows o.reference c.args.ruling (empty_batch (length view.rows) view.time (c.len.result + 1)))) (sym c.order.ensures)
+    ∙ sym c.in-Ok.ensures.rows in
+    let entries = c.push_reserved.ensures.items
+    ∙ ap (λ history. history ++ record { caller = c.args.caller; deed = deed.Finish c.run-run.result c.args.ruling } ∷ []) c.in-Ok-take_room.ensures.entries
+    ∙ ap (λ run. c.self.inside.entries.items ++ record { caller = c.args.caller; deed = deed.Finish run c.args.ruling } ∷ []) c.run-run.ensures in
+    let weight = c.in-Some.ensures.0 ∙ ap (λ rows. c.self.inside.weight + rows_weight rows) c.as_slice.ensures.value in
+    let count = ap length c.push_reserved.ensures.items ∙ length-append c.take_room.new.entries.items _ in
+    let fewer = c.one_less-live.ensures in
+    let replies = room.for_replies in (
+      book_is _ _ _ _ _ _ _ _ _ _ _ _
+          (finish_book _ _ _ _ _ _ _ _ c.one_less-live.result _ c.args.caller c.args.ticket c.args.ruling c.in-Ok.ending.rows.items c.self.view_is c.self.invariant.0
+          c.requires.own c.requires.caller place made fewer)
+          entries (c.append_reserved.ensures.rows ∙ ap (λ rows. rows ++ c.in-Ok.ending.rows.items) c.in-Ok-take_room.ensures.rows)
+          (c.append_reserved.ensures.time ∙ c.in-Ok-take_room.ensures.time) (omega (arith, weight)) c.settle.ensures.after,
+      record {
+        for_entries = omega (arith, count, c.in-Ok-take_room.ensures.entries_room, c.push_reserved.ensures.capacity);
+        for_rows = omega (arith, c.in-Ok-take_room.ensures.rows_room, c.append_reserved.ensures.room, c.in-Ok.ending.rows.ok.0, c.len-2.ensures);
+        for_replies = omega (arith, fewer, replies, c.take_spare-spare.ensures);
+        for_weight = c.in-Some.ensures.1;
+      },
+    )
+
+pub returns-clause-said : goal.returns-clause-said
+returns-clause-said c =
+    let view = c.self.inside.view in
+    let place = ap (λ n. n + 1) (c.len.ensures ∙ c.self.inside.entries.ok.0) in
+    ap (λ (effect : Effect). effect.said) (finish_is _ _ _ _ _ _ _ _ _ c.args.caller c.args.ticket c.args.ruling c.self.view_is c.self.invariant.0 c.requires.own place)
+    ∙ ap Replies
+    (ap (λ (o : Order). ruling_reply view.rows c.args.ruling (settle_outcome view.rows o.reference c.args.ruling (empty_batch (length view.rows) view.time (c.len.result + 1)))) (sym c.order.ensures)
+    ∙ sym c.in-Ok.ensures.reply)

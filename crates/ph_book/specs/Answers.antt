@@ -1,0 +1,45 @@
+-- Answers of a book.
+use Rattle.std.specs.Prelude.{◌≡◌, ◌≢◌, ℕ, List, [], ◌∷◌, IsTrue}
+use Rattle.ph_attempts.specs.declared.flights.Flight.{Flight}
+use Rattle.ph_rows.specs.declared.orders.Order.{Order}
+use Rattle.ph_http.specs.declared.message.Reply.{Reply}
+use Rattle.ph_http.specs.Replies.{is_status}
+use Rattle.ph_book.specs.declared.acts.Act.{Act}
+use Rattle.ph_book.specs.declared.acts.Act.TheVariants as act
+use Rattle.ph_book.specs.declared.acts.Answer.{Answer}
+use Rattle.ph_book.specs.declared.acts.Answer.TheVariants as answer
+use Rattle.ph_book.specs.Replies.{Said, Replies, Waits, Silence, park_reply}
+
+-- the answer says this, to the entry of a caller at a place: a ticket is of the run with the entry's place as its number
+abbrev pub Says : ℕ → ℕ → Said → Answer → Type 0
+Says place caller (Replies reply) (answer.Reply given) = given ≡ reply
+Says place caller (Replies reply) (answer.Wait ticket) = ⊥
+Says place caller (Waits order) (answer.Reply given) = ⊥
+Says place caller (Waits order) (answer.Wait ticket) = ticket ≡ record { caller = caller; run = place; order = order }
+Says place caller Silence given = ⊥
+
+-- the reply that an answer is
+abbrev pub replies_in : Answer → List Reply
+replies_in (answer.Reply reply) = reply ∷ []
+replies_in (answer.Wait ticket) = []
+
+-- the status of a reply is one that replies are written with
+abbrev pub HasStatus : Answer → Type 0
+HasStatus (answer.Reply reply) = IsTrue (is_status reply.status)
+HasStatus (answer.Wait ticket) = Unit {0}
+
+-- the answer is a reply
+abbrev pub IsReply : Answer → Type 0
+IsReply (answer.Reply reply) = Unit {0}
+IsReply (answer.Wait ticket) = ⊥
+
+-- a reply isn't one to a run that was given up: these have the status 500, but for want of memory
+abbrev pub IsNoPark : Answer → Type 0
+IsNoPark (answer.Reply reply) = reply.status ≢ 500
+IsNoPark (answer.Wait ticket) = Unit {0}
+
+-- what the answers to an act are: a call is answered by a reply or waits, a ruling by a reply, and a park by the reply of its reason
+abbrev pub IsAnswerTo : Act → Answer → Type 0
+IsAnswerTo (act.Call raw) given = IsNoPark given
+IsAnswerTo (act.Finish ticket ruling) given = IsReply given × IsNoPark given
+IsAnswerTo (act.Park ticket why) given = given ≡ answer.Reply (park_reply why)

@@ -1,0 +1,9 @@
+# For the scripts beside it: one request to payhost, as a client sends it.
+#
+#   request METHOD TARGET BODY
+request() {
+    printf '%s %s HTTP/1.1\r\n' "$1" "$2"
+    printf 'Host: localhost\r\n'
+    printf 'Authorization: Bearer sk_test_payhost\r\n'
+    printf 'Content-Length: %s\r\n\r\n%s' "${#3}" "$3"
+}
