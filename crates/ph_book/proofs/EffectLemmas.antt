@@ -86,20 +86,20 @@ pub record IsOrderly (places count : ℕ) (attempts : List flights.Attempt) (eff
 nothing_continues : (count : ℕ) → Continues count []
 nothing_continues count = record { placed = tt; few = omega arith }
 
-added_orderly : (rows : List Row) (places caller object : ℕ) (batch : BatchState) (attempts : List flights.Attempt) (order : Option Order)
+added_orderly : (rows : List Row) (now places caller object : ℕ) (batch : BatchState) (attempts : List flights.Attempt) (order : Option Order)
     → IsSmall (length rows) batch → IsAsked batch → begun batch ≡ order
-    → IsOrderly places (length rows) attempts (added_effect rows (places + 1) caller object batch order)
-added_orderly rows places caller object batch attempts None small asked begins = record { continues = small_continues (length rows) batch small; next = tt }
-added_orderly rows places caller object batch attempts (Some order) small asked begins =
+    → IsOrderly places (length rows) attempts (added_effect rows now (places + 1) caller object batch order)
+added_orderly rows now places caller object batch attempts None small asked begins = record { continues = small_continues (length rows) batch small; next = tt }
+added_orderly rows now places caller object batch attempts (Some order) small asked begins =
     let is = asked order begins in
     let began = small.began in
     let longer = made_longer batch in
     record { continues = small_continues (length rows) batch small; next = (refl, omega (arith, is.0, is.1), omega (arith, is.0)) }
 
-call_orderly : (rows : List Row) (places caller : ℕ) (attempts : List flights.Attempt) (outcome : Outcome) → IsFit (length rows) outcome
-    → IsOrderly places (length rows) attempts (call_effect rows (places + 1) caller outcome)
-call_orderly rows places caller attempts (Refuses error) fit = record { continues = nothing_continues (length rows); next = tt }
-call_orderly rows places caller attempts (Adds object batch) fit = added_orderly rows places caller object batch attempts (begun batch) fit.0 fit.1 refl
+call_orderly : (rows : List Row) (now places caller : ℕ) (attempts : List flights.Attempt) (outcome : Outcome) → IsFit (length rows) outcome
+    → IsOrderly places (length rows) attempts (call_effect rows now (places + 1) caller outcome)
+call_orderly rows now places caller attempts (Refuses error) fit = record { continues = nothing_continues (length rows); next = tt }
+call_orderly rows now places caller attempts (Adds object batch) fit = added_orderly rows now places caller object batch attempts (begun batch) fit.0 fit.1 refl
 
 outcome_continues : (count : ℕ) (outcome : Outcome) → IsSettled count outcome → Continues count (outcome_rows outcome)
 outcome_continues count (Refuses error) settled = absurd settled
@@ -135,11 +135,12 @@ park_orderly rows now places place caller run why attempts (Some flight) kept is
 pub effect_orderly : (setup : Setup) (rows : List Row) (now places caller : ℕ) (attempts : List flights.Attempt) (d : Deed)
     → AreKept places (length rows) attempts → IsOrderly places (length rows) attempts (effect_of setup rows now attempts (places + 1) caller d)
 effect_orderly setup rows now places caller attempts (deed.Call raw) kept =
-    call_orderly rows places caller attempts (called_at setup.key rows now (places + 1) raw) (called_fit setup.key rows now (places + 1) raw)
+    call_orderly rows now places caller attempts (called_at setup.key rows now (places + 1) raw) (called_fit setup.key rows now (places + 1) raw)
 effect_orderly setup rows now places caller attempts (deed.Finish run ruling) kept =
     finish_orderly rows now places (places + 1) caller run ruling attempts (run_in attempts caller run) kept refl
 effect_orderly setup rows now places caller attempts (deed.Park run why) kept =
     park_orderly rows now places (places + 1) caller run why attempts (run_in attempts caller run) kept refl
+effect_orderly setup rows now places caller attempts (deed.Tick moment) kept = record { continues = nothing_continues (length rows); next = tt }
 
 -- ---- over a history
 
@@ -219,13 +220,21 @@ IfServed (Replies reply) = IsServed reply
 IfServed (Waits order) = Unit {0}
 IfServed Silence = Unit {0}
 
-added_served : (rows : List Row) (place caller object : ℕ) (batch : BatchState) (order : Option Order) → IfServed (added_effect rows place caller object batch order).said
-added_served rows place caller object batch None = version_served rows (version_with rows batch object)
-added_served rows place caller object batch (Some order) = tt
+-- what is said to a call: a served reply, or that it waits
+abbrev pub IsServedOrWaits : Said → Type 0
+IsServedOrWaits (Replies reply) = IsServed reply
+IsServedOrWaits (Waits order) = Unit {0}
+IsServedOrWaits Silence = ⊥
 
-call_served : (rows : List Row) (place caller : ℕ) (outcome : Outcome) → IsFit (length rows) outcome → IfServed (call_effect rows place caller outcome).said
-call_served rows place caller (Refuses error) fit = fit
-call_served rows place caller (Adds object batch) fit = added_served rows place caller object batch (begun batch)
+added_served : (rows : List Row) (now place caller object : ℕ) (batch : BatchState) (order : Option Order)
+    → IsServedOrWaits (added_effect rows now place caller object batch order).said
+added_served rows now place caller object batch None = version_served rows (version_with rows batch object)
+added_served rows now place caller object batch (Some order) = tt
+
+call_served : (rows : List Row) (now place caller : ℕ) (outcome : Outcome) → IsFit (length rows) outcome
+    → IsServedOrWaits (call_effect rows now place caller outcome).said
+call_served rows now place caller (Refuses error) fit = fit
+call_served rows now place caller (Adds object batch) fit = added_served rows now place caller object batch (begun batch)
 
 finish_served : (rows : List Row) (now place : ℕ) (ruling : Ruling) (found : Option Flight) → IfServed (finish_effect rows now place ruling found).said
 finish_served rows now place ruling None = tt
@@ -234,11 +243,11 @@ finish_served rows now place ruling (Some flight) =
     (settled_small rows now place flight.order.reference ruling)
 
 -- to a call, and to a ruling
-pub said_to_call : (setup : Setup) (history : List Entry) (caller : ℕ) (raw : Raw) → IfServed (said_to setup history (call_entry caller raw))
+pub said_to_call : (setup : Setup) (history : List Entry) (caller : ℕ) (raw : Raw) → IsServedOrWaits (said_to setup history (call_entry caller raw))
 unfolding effect_to
 said_to_call setup history caller raw =
     let past : List Happening = past_of setup history in
-    call_served (rows_after setup past) (length past + 1) caller (called_at setup.key (rows_after setup past) (time_after setup past) (length past + 1) raw)
+    call_served (rows_after setup past) (time_after setup past) (length past + 1) caller (called_at setup.key (rows_after setup past) (time_after setup past) (length past + 1) raw)
     (called_fit setup.key (rows_after setup past) (time_after setup past) (length past + 1) raw)
 
 pub said_to_finish : (setup : Setup) (history : List Entry) (caller : ℕ) (ticket : Flight) (ruling : Ruling)
@@ -262,14 +271,16 @@ served_no_park status served is =
     false≢true five
 
 -- the answer that says it
-pub says_served : (place caller : ℕ) (said : Said) (given : Answer) → IfServed said → Says place caller said given → HasStatus given × IsNoPark given
+pub says_served : (place caller : ℕ) (said : Said) (given : Answer) → IsServedOrWaits said → Says place caller said given → HasStatus given × IsNoPark given
 says_served place caller (Replies reply) (answer.Reply given) served says =
     let is : is_served given.status ≡ true = subst (λ (r : Reply). is_served r.status ≡ true) (sym says) served in
     (served_status given.status is, served_no_park given.status is)
 says_served place caller (Replies reply) (answer.Wait ticket) served says = absurd says
+says_served place caller (Replies reply) answer.Done served says = absurd says
 says_served place caller (Waits order) (answer.Reply given) served says = absurd says
 says_served place caller (Waits order) (answer.Wait ticket) served says = (tt, tt)
-says_served place caller Silence given served says = absurd says
+says_served place caller (Waits order) answer.Done served says = absurd says
+says_served place caller Silence given served says = absurd served
 
 -- a reply that is said
 pub reply_served : (said : Said) (reply : Reply) → IfServed said → said ≡ Replies reply → HasStatus (answer.Reply reply) × IsNoPark (answer.Reply reply)
@@ -279,6 +290,10 @@ reply_served said reply served is =
 
 pub says_reply : (place caller : ℕ) (said : Said) (reply : Reply) → said ≡ Replies reply → Says place caller said (answer.Reply reply)
 says_reply place caller said reply is = subst (λ (s : Said). Says place caller s (answer.Reply reply)) (sym is) refl
+
+-- nothing is said where Done answers
+pub says_silence : (place caller : ℕ) (said : Said) → said ≡ Silence → Says place caller said answer.Done
+says_silence place caller said is = subst (λ (s : Said). Says place caller s answer.Done) (sym is) tt
 
 -- the reply to a park has a status that replies are written with
 pub park_status : (why : Why) → IsTrue (is_status (park_reply why).status)

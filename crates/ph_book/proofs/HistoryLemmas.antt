@@ -17,6 +17,7 @@ use Rattle.ph_book.specs.declared.acts.Deed.{Deed}
 use Rattle.ph_book.specs.declared.acts.Answer.{Answer}
 use Rattle.ph_book.specs.declared.acts.Answer.TheVariants as answer
 use Rattle.ph_book.specs.Answers.{Says, replies_in}
+use Rattle.ph_book.specs.Entries.{IsWithinClock}
 use Rattle.ph_book.specs.Replies.{Said, Replies, Waits, Silence, replies_said}
 use Rattle.ph_book.specs.History.{Effect, Happening, opening_row, rows_after, time_after, attempts_after, effect_of, effect_after, happens, happening_of, and_then, past_of, rows_of, time_of, attempts_of, effect_to, said_to, replies_of}
 use Rattle.ph_book.specs.Legal.{EndsOwn, deed_weight, weight_after, used_after, is_full_at, is_full_after, is_full, IsAllowed, AreAllowed, IsLegal}
@@ -85,9 +86,13 @@ replies_more setup history entry =
 said_replies : (place caller : ℕ) (said : Said) (given : Answer) → Says place caller said given → replies_said said ≡ replies_in given
 said_replies place caller (Replies reply) (answer.Reply given) says = ap (λ r. r ∷ []) (sym says)
 said_replies place caller (Replies reply) (answer.Wait ticket) says = absurd says
+said_replies place caller (Replies reply) answer.Done says = absurd says
 said_replies place caller (Waits order) (answer.Reply given) says = absurd says
 said_replies place caller (Waits order) (answer.Wait ticket) says = refl
-said_replies place caller Silence given says = absurd says
+said_replies place caller (Waits order) answer.Done says = absurd says
+said_replies place caller Silence (answer.Reply given) says = absurd says
+said_replies place caller Silence (answer.Wait ticket) says = absurd says
+said_replies place caller Silence answer.Done says = refl
 
 -- the replies of a book that has an entry more, which was answered so
 pub replies_grow : (old new : BookState) (place caller : ℕ) (entry : Entry) (given : Answer) → new ≡ entered old entry
@@ -118,23 +123,22 @@ effect_is setup history rows time weight attempts live place entry b at =
     ap (λ (p : List Row × (ℕ × (List flights.Attempt × ℕ))). effect_of setup p.0 p.1.0 p.1.1.0 p.1.1.1 entry.caller entry.deed)
     (λ i. (rows_are i, (time_is i, (attempts_are i, places i))))
 
--- what a book keeps after one entry more, which comes to these rows and this step
+-- what a book keeps after one entry more, which comes to these rows, this step and this time
 pub book_more : (setup : Setup) (history : List Entry) (rows : List Row) (time weight : ℕ) (attempts : List flights.Attempt) (live : ℕ) (entry : Entry)
-    (new : List Row) (step : Option Step) (live' : ℕ) → IsBook setup history rows time weight attempts live
+    (new : List Row) (step : Option Step) (now live' : ℕ) → IsBook setup history rows time weight attempts live
     → IsAllowed setup (past_of setup history) entry → (effect_to setup history entry).rows ≡ new → (effect_to setup history entry).step ≡ step
-    → live' ≡ length (live_of (after_step attempts step))
-    → IsBook setup (history ++ entry ∷ []) (rows ++ new) time ((weight + deed_weight entry.deed) + rows_weight new) (after_step attempts step) live'
+    → (effect_to setup history entry).now ≡ now → live' ≡ length (live_of (after_step attempts step))
+    → IsBook setup (history ++ entry ∷ []) (rows ++ new) now ((weight + deed_weight entry.deed) + rows_weight new) (after_step attempts step) live'
 unfolding rows_of time_of attempts_of effect_to
-book_more setup history rows time weight attempts live entry new step live' b allowed made stepped counted =
+book_more setup history rows time weight attempts live entry new step now live' b allowed made stepped timed counted =
     let past : List Happening = past_of setup history in
     let h : Happening = happening_of setup past entry in
     let grown : past_of setup (history ++ entry ∷ []) ≡ past ++ h ∷ [] = past_more setup history entry in
     let rows_are : rows ≡ rows_after setup past = b.rows_are in
-    let time_is : time ≡ time_after setup past = b.time_is in
     let attempts_are : attempts ≡ attempts_after past = b.attempts_are in
     record {
       rows_are = sym (ap (rows_after setup) grown ∙ rows_more setup past h ∙ ap (λ x. x ++ h.rows) (sym rows_are) ∙ ap (λ x. rows ++ x) made);
-      time_is = sym (ap (time_after setup) grown ∙ time_more setup past h ∙ sym time_is);
+      time_is = sym (ap (time_after setup) grown ∙ time_more setup past h ∙ timed);
       weight_is = sym (ap (weight_after setup) grown ∙ weight_more setup past h
           ∙ ap (λ x. (x + deed_weight entry.deed) + rows_weight h.rows) (sym b.weight_is)
           ∙ ap (λ x. (weight + deed_weight entry.deed) + rows_weight x) made);
@@ -172,12 +176,12 @@ no_room full test e h = (λ _. e ∙ h, λ _. refl)
 pub has_room : (full : Bool) → full ≡ false → (Refused.NoMemory ≡ Refused.Full) ↔ IsTrue full
 has_room full h = (λ clash. absurd (cc), λ full_is. absurd (cc))
 
--- an entry that has room, and ends a run of its own caller if any, may come
-pub may_come : (setup : Setup) (history : List Entry) (caller : ℕ) (deed : Deed) → caller < 2 ^ 62
+-- an entry that has room, ends a run of its own caller if any, and shows a moment of a clock if any, may come
+pub may_come : (setup : Setup) (history : List Entry) (caller : ℕ) (deed : Deed) → caller < 2 ^ 62 → IsWithinClock deed
     → EndsOwn (attempts_of setup history) caller deed → is_full setup history deed ≡ false
     → IsAllowed setup (past_of setup history) (record { caller = caller; deed = deed })
 unfolding is_full attempts_of
-may_come setup history caller deed below own room = record { caller = below; own = own; room = room }
+may_come setup history caller deed below clock own room = record { caller = below; clock = clock; own = own; room = room }
 
 -- a book without entries
 pub book_new : (setup : Setup) → setup.opened ≤ clock_limit → IsBook setup [] (opening_row setup.opened ∷ []) setup.opened 256 [] 0

@@ -81,6 +81,12 @@ call_left setup past raw room =
     or_false (nat_lt setup.entries (used_after past + 2)) (nat_lt setup.weight (weight_after setup past + raw_weight raw)) room in
     grind (arith, nat_tests)
 
+-- where a moment has room, so has the setup
+tick_left : (setup : Setup) (past : List Happening) (moment : ℕ) → is_full_after setup past (deed.Tick moment) ≡ false → used_after past + 1 ≤ setup.entries
+tick_left setup past moment room =
+    let few : nat_lt setup.entries (used_after past + 1) ≡ false = room in
+    grind (arith, nat_tests)
+
 -- the live runs after a step
 live_next : (places rows grown : ℕ) (attempts : List flights.Attempt) (step : Option Step) → AreKept places rows attempts
     → IsNext places rows grown attempts step → length (live_of (after_step attempts step)) ≤ length (live_of attempts) + 1
@@ -114,6 +120,7 @@ used_next setup past caller (deed.Park run why) counted own room used =
     let fewer = live_parked (attempts_after past) own.0 counted.kept.one_each (entry_of_run caller run (attempts_after past) own.0 counted.kept.one_each own.1) in
     let same = ap (λ (s : Option Step). length (live_of (after_step (attempts_after past) s))) step in
     omega (arith, fewer, same, used)
+used_next setup past caller (deed.Tick moment) counted own room used = let left = tick_left setup past moment room in omega (arith, left)
 
 -- a legal history has no more entries than its setup
 legal_few : (setup : Setup) (past : List Happening) (history : List Entry) → AreCounted (length past) (rows_after setup past) (attempts_after past)

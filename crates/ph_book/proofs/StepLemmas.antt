@@ -1,5 +1,5 @@
 -- What a book keeps after one step more: a call, a ruling, a park.
-use Rattle.std.proofs.Common.{◌≡◌, ℕ, ◌+◌, ◌*◌, ◌^◌, ◌<◌, ◌≤◌, ◌∷◌, ◌++◌, Bool, true, false, List, [], length, Option, Some, None, find, refl, sym, ap, ◌∙◌, subst, arith}
+use Rattle.std.proofs.Common.{◌≡◌, ℕ, ◌+◌, ◌*◌, ◌^◌, ◌<◌, ◌≤◌, max, ◌∷◌, ◌++◌, Bool, true, false, List, [], length, Option, Some, None, find, refl, sym, ap, ◌∙◌, subst, arith}
 use Rattle.ph_base.specs.declared.acquirer.Ruling.{Ruling}
 use Rattle.ph_base.specs.declared.acquirer.Why.{Why}
 use Rattle.ph_attempts.specs.declared.flights.Attempt as flights
@@ -11,6 +11,7 @@ use Rattle.ph_rows.specs.declared.rows.Row.{Row}
 use Rattle.ph_rows.specs.declared.attempts.Attempt.{Attempt}
 use Rattle.ph_rows.specs.Batches.{empty_batch}
 use Rattle.ph_rows.specs.Rows.{latest_of}
+use Rattle.ph_rows.specs.Sound.{clock_limit}
 use Rattle.ph_rows.specs.Weights.{rows_weight}
 use Rattle.ph_intents.specs.Attempts.{attempt_in}
 use Rattle.ph_http.specs.declared.message.Raw.{Raw}
@@ -22,9 +23,10 @@ use Rattle.ph_book.specs.declared.acts.Deed.TheVariants as deed
 use Rattle.ph_book.specs.declared.calls.Called.{Called}
 use Rattle.ph_book.specs.Called.{IsCalled}
 use Rattle.ph_book.specs.Calls.{called_at}
-use Rattle.ph_book.specs.Entries.{call_entry, finish_entry, park_entry}
-use Rattle.ph_book.specs.History.{Effect, attempts_of, call_effect, effect_of, effect_to, finish_effect, park_effect, parked_by, parked_from, parked_rows, rows_of, time_of}
+use Rattle.ph_book.specs.Entries.{call_entry, finish_entry, park_entry, tick_entry}
+use Rattle.ph_book.specs.History.{Effect, attempts_of, call_effect, effect_of, effect_to, finish_effect, park_effect, parked_by, parked_from, parked_rows, rows_of, said_to, tick_effect, time_of}
 use Rattle.ph_book.specs.Legal.{deed_weight, is_full, raw_weight}
+use Rattle.ph_book.specs.Replies.{Silence}
 use Rattle.ph_book.specs.Runs.{after_step, is_run, live_of, run_in}
 use Rattle.ph_book.specs.State.{BookState, IsBook}
 use Rattle.ph_book.specs.Tickets.{Holds}
@@ -44,38 +46,47 @@ kept_of setup history rows time weight attempts live b =
 -- what a call comes to over what a book keeps
 pub call_is : (old : BookState) (setup : Setup) (history : List Entry) (rows : List Row) (time weight : ℕ) (attempts : List flights.Attempt) (live place caller : ℕ) (raw : Raw) (effect : Effect)
     → record { setup = setup; history = history } ≡ old → IsBook setup history rows time weight attempts live → place ≡ length history + 1
-    → call_effect rows place caller (called_at setup.key rows time place raw) ≡ effect → effect_to old.setup old.history (call_entry caller raw) ≡ effect
+    → call_effect rows time place caller (called_at setup.key rows time place raw) ≡ effect → effect_to old.setup old.history (call_entry caller raw) ≡ effect
 call_is old setup history rows time weight attempts live place caller raw effect is b at comes =
     subst (λ (x : BookState). effect_to x.setup x.history (call_entry caller raw) ≡ effect) is
     (sym (effect_is setup history rows time weight attempts live place (call_entry caller raw) b at) ∙ comes)
 
+-- the time that a book keeps is that of its history
+pub time_now : (old : BookState) (setup : Setup) (history : List Entry) (rows : List Row) (time weight : ℕ) (attempts : List flights.Attempt) (live : ℕ)
+    → record { setup = setup; history = history } ≡ old → IsBook setup history rows time weight attempts live → time_of old.setup old.history ≡ time
+time_now old setup history rows time weight attempts live is b = ap (λ (x : BookState). time_of x.setup x.history) (sym is) ∙ sym b.time_is
+
 -- so is what the program made of it
 pub called_is : (old : BookState) (setup : Setup) (history : List Entry) (rows : List Row) (time weight : ℕ) (attempts : List flights.Attempt) (live place caller : ℕ) (raw : Raw) (made : Called)
     → record { setup = setup; history = history } ≡ old → IsBook setup history rows time weight attempts live → place ≡ length history + 1
-    → IsCalled place caller (call_effect rows place caller (called_at setup.key rows time place raw)) made
-    → IsCalled (length old.history + 1) caller (effect_to old.setup old.history (call_entry caller raw)) made
+    → IsCalled time place caller (call_effect rows time place caller (called_at setup.key rows time place raw)) made
+    → IsCalled (time_of old.setup old.history) (length old.history + 1) caller (effect_to old.setup old.history (call_entry caller raw)) made
 called_is old setup history rows time weight attempts live place caller raw made is b at comes =
     let here : place ≡ length old.history + 1 = at ∙ ap (λ (x : BookState). length x.history + 1) is in
-    let same : call_effect rows place caller (called_at setup.key rows time place raw) ≡ effect_to old.setup old.history (call_entry caller raw) =
-    sym (call_is old setup history rows time weight attempts live place caller raw (call_effect rows place caller (called_at setup.key rows time place raw)) is b at refl) in
-    subst (λ (p : ℕ × Effect). IsCalled p.0 caller p.1 made) (λ i. (here i, same i)) comes
+    let timed : time ≡ time_of old.setup old.history = sym (time_now old setup history rows time weight attempts live is b) in
+    let same : call_effect rows time place caller (called_at setup.key rows time place raw) ≡ effect_to old.setup old.history (call_entry caller raw) =
+    sym (call_is old setup history rows time weight attempts live place caller raw (call_effect rows time place caller (called_at setup.key rows time place raw)) is b at refl) in
+    subst (λ (p : ℕ × (ℕ × Effect)). IsCalled p.0 p.1.0 caller p.1.1 made) (λ i. (timed i, (here i, same i))) comes
 
--- what a book keeps after a call that makes these rows and this step
+-- what a book keeps after a call that makes these rows and this step, and leaves this time
 pub call_book : (old : BookState) (setup : Setup) (history : List Entry) (rows : List Row) (time weight : ℕ) (attempts : List flights.Attempt) (live caller : ℕ) (raw : Raw)
-    (new : List Row) (step : Option Step) (live' : ℕ)
+    (new : List Row) (step : Option Step) (now live' : ℕ)
     → record { setup = setup; history = history } ≡ old → IsBook setup history rows time weight attempts live → caller < 2 ^ 62
     → is_full old.setup old.history (deed.Call raw) ≡ false → (effect_to old.setup old.history (call_entry caller raw)).rows ≡ new
-    → (effect_to old.setup old.history (call_entry caller raw)).step ≡ step → live' ≡ length (live_of (after_step attempts step))
-    → IsBook setup (history ++ call_entry caller raw ∷ []) (rows ++ new) time ((weight + raw_weight raw) + rows_weight new) (after_step attempts step) live'
-call_book old setup history rows time weight attempts live caller raw new step live' is b below room made stepped counted =
+    → (effect_to old.setup old.history (call_entry caller raw)).step ≡ step → (effect_to old.setup old.history (call_entry caller raw)).now ≡ now
+    → live' ≡ length (live_of (after_step attempts step))
+    → IsBook setup (history ++ call_entry caller raw ∷ []) (rows ++ new) now ((weight + raw_weight raw) + rows_weight new) (after_step attempts step) live'
+call_book old setup history rows time weight attempts live caller raw new step now live' is b below room made stepped timed counted =
     let here : BookState = record { setup = setup; history = history } in
     let room_here : is_full setup history (deed.Call raw) ≡ false = subst (λ (x : BookState). is_full x.setup x.history (deed.Call raw) ≡ false) (sym is) room in
     let made_here : (effect_to setup history (call_entry caller raw)).rows ≡ new =
     subst (λ (x : BookState). (effect_to x.setup x.history (call_entry caller raw)).rows ≡ new) (sym is) made in
     let step_here : (effect_to setup history (call_entry caller raw)).step ≡ step =
     subst (λ (x : BookState). (effect_to x.setup x.history (call_entry caller raw)).step ≡ step) (sym is) stepped in
-    book_more setup history rows time weight attempts live (call_entry caller raw) new step live' b
-    (may_come setup history caller (deed.Call raw) below tt room_here) made_here step_here counted
+    let now_here : (effect_to setup history (call_entry caller raw)).now ≡ now =
+    subst (λ (x : BookState). (effect_to x.setup x.history (call_entry caller raw)).now ≡ now) (sym is) timed in
+    book_more setup history rows time weight attempts live (call_entry caller raw) new step now live' b
+    (may_come setup history caller (deed.Call raw) below tt tt room_here) made_here step_here now_here counted
 
 -- the step of a call may be made
 call_next : (old : BookState) (setup : Setup) (history : List Entry) (rows : List Row) (time weight : ℕ) (attempts : List flights.Attempt) (live caller : ℕ) (raw : Raw) (flight : Flight)
@@ -107,11 +118,11 @@ pub begin_book : (old : BookState) (setup : Setup) (history : List Entry) (rows 
     (new : List Row) (flight : Flight)
     → record { setup = setup; history = history } ≡ old → IsBook setup history rows time weight attempts live → caller < 2 ^ 62
     → is_full old.setup old.history (deed.Call raw) ≡ false → (effect_to old.setup old.history (call_entry caller raw)).rows ≡ new
-    → (effect_to old.setup old.history (call_entry caller raw)).step ≡ Some (Begins flight)
+    → (effect_to old.setup old.history (call_entry caller raw)).step ≡ Some (Begins flight) → (effect_to old.setup old.history (call_entry caller raw)).now ≡ time
     → IsBook setup (history ++ call_entry caller raw ∷ []) (rows ++ new) time ((weight + raw_weight raw) + rows_weight new) (after attempts (Begins flight)) (live + 1)
-begin_book old setup history rows time weight attempts live caller raw new flight is b below room made stepped =
+begin_book old setup history rows time weight attempts live caller raw new flight is b below room made stepped timed =
     let fresh = begin_new old setup history rows time weight attempts live caller raw flight is b stepped in
-    call_book old setup history rows time weight attempts live caller raw new (Some (Begins flight)) (live + 1) is b below room made stepped
+    call_book old setup history rows time weight attempts live caller raw new (Some (Begins flight)) time (live + 1) is b below room made stepped timed
     (ap (λ n. n + 1) b.live_is ∙ sym (live_begun attempts flight fresh))
 
 -- the run that has begun is live
@@ -207,9 +218,9 @@ finish_book old setup history rows time weight attempts live live' place caller 
     let settled = live_settled attempts ticket (kept_of setup history rows time weight attempts live b).one_each
     (held_entry old setup history rows time weight attempts live caller ticket is b holds) in
     let counted = b.live_is in
-    book_more setup history rows time weight attempts live (finish_entry caller ticket ruling) new (Some (Settles ticket)) live' b
-    (may_come setup history caller (deed.Finish ticket.run ruling) below (ticket, own) (finish_room setup history ticket.run ruling))
-    (ap (λ (effect : Effect). effect.rows) comes ∙ made) (ap (λ (effect : Effect). effect.step) comes) (omega (arith, settled, counted, fewer))
+    book_more setup history rows time weight attempts live (finish_entry caller ticket ruling) new (Some (Settles ticket)) time live' b
+    (may_come setup history caller (deed.Finish ticket.run ruling) below tt (ticket, own) (finish_room setup history ticket.run ruling))
+    (ap (λ (effect : Effect). effect.rows) comes ∙ made) (ap (λ (effect : Effect). effect.step) comes) (ap (λ (effect : Effect). effect.now) comes) (omega (arith, settled, counted, fewer))
 
 -- the row of a park has no texts, and is one at most
 by_weight : (count now place : ℕ) (row : Row) (attempt : Option Attempt) → let made = (parked_by row (empty_batch count now place) attempt).rows in
@@ -241,6 +252,35 @@ park_book old setup history rows time weight attempts live live' place caller ti
     let parked = live_parked attempts ticket (kept_of setup history rows time weight attempts live b).one_each
     (held_entry old setup history rows time weight attempts live caller ticket is b holds) in
     let counted = b.live_is in
-    book_more setup history rows time weight attempts live (park_entry caller ticket why) new (Some (Parks ticket)) live' b
-    (may_come setup history caller (deed.Park ticket.run why) below (ticket, own) (park_room setup history ticket.run why))
-    (ap (λ (effect : Effect). effect.rows) comes ∙ made) (ap (λ (effect : Effect). effect.step) comes) (omega (arith, parked, counted, fewer))
+    book_more setup history rows time weight attempts live (park_entry caller ticket why) new (Some (Parks ticket)) time live' b
+    (may_come setup history caller (deed.Park ticket.run why) below tt (ticket, own) (park_room setup history ticket.run why))
+    (ap (λ (effect : Effect). effect.rows) comes ∙ made) (ap (λ (effect : Effect). effect.step) comes) (ap (λ (effect : Effect). effect.now) comes) (omega (arith, parked, counted, fewer))
+
+-- ---- the clock
+
+-- what a moment comes to over what a book keeps
+pub tick_is : (old : BookState) (setup : Setup) (history : List Entry) (rows : List Row) (time weight : ℕ) (attempts : List flights.Attempt) (live caller moment : ℕ)
+    → record { setup = setup; history = history } ≡ old → IsBook setup history rows time weight attempts live
+    → effect_to old.setup old.history (tick_entry caller moment) ≡ tick_effect time moment
+tick_is old setup history rows time weight attempts live caller moment is b =
+    subst (λ (x : BookState). effect_to x.setup x.history (tick_entry caller moment) ≡ tick_effect time moment) is
+    (sym (effect_is setup history rows time weight attempts live (length history + 1) (tick_entry caller moment) b refl))
+
+-- nothing is said to it
+pub tick_said : (setup : Setup) (history : List Entry) (caller moment : ℕ) → said_to setup history (tick_entry caller moment) ≡ Silence
+unfolding effect_to
+tick_said setup history caller moment = refl
+
+-- what a book keeps after a moment that has room
+pub tick_book : (old : BookState) (setup : Setup) (history : List Entry) (rows : List Row) (time weight : ℕ) (attempts : List flights.Attempt) (live caller moment : ℕ)
+    → record { setup = setup; history = history } ≡ old → IsBook setup history rows time weight attempts live → caller < 2 ^ 62 → moment ≤ clock_limit
+    → is_full old.setup old.history (deed.Tick moment) ≡ false
+    → IsBook setup (history ++ tick_entry caller moment ∷ []) (rows ++ []) (max time moment) ((weight + 0) + 0) attempts live
+tick_book old setup history rows time weight attempts live caller moment is b below clock room =
+    let here : BookState = record { setup = setup; history = history } in
+    let room_here : is_full setup history (deed.Tick moment) ≡ false = subst (λ (x : BookState). is_full x.setup x.history (deed.Tick moment) ≡ false) (sym is) room in
+    let comes : effect_to setup history (tick_entry caller moment) ≡ tick_effect time moment =
+    tick_is here setup history rows time weight attempts live caller moment refl b in
+    book_more setup history rows time weight attempts live (tick_entry caller moment) [] None (max time moment) live b
+    (may_come setup history caller (deed.Tick moment) below clock tt room_here)
+    (ap (λ (effect : Effect). effect.rows) comes) (ap (λ (effect : Effect). effect.step) comes) (ap (λ (effect : Effect). effect.now) comes) b.live_is

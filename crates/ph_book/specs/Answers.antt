@@ -14,32 +14,41 @@ use Rattle.ph_book.specs.Replies.{Said, Replies, Waits, Silence, park_reply}
 abbrev pub Says : ℕ → ℕ → Said → Answer → Type 0
 Says place caller (Replies reply) (answer.Reply given) = given ≡ reply
 Says place caller (Replies reply) (answer.Wait ticket) = ⊥
+Says place caller (Replies reply) answer.Done = ⊥
 Says place caller (Waits order) (answer.Reply given) = ⊥
 Says place caller (Waits order) (answer.Wait ticket) = ticket ≡ record { caller = caller; run = place; order = order }
-Says place caller Silence given = ⊥
+Says place caller (Waits order) answer.Done = ⊥
+Says place caller Silence (answer.Reply given) = ⊥
+Says place caller Silence (answer.Wait ticket) = ⊥
+Says place caller Silence answer.Done = Unit {0}
 
 -- the reply that an answer is
 abbrev pub replies_in : Answer → List Reply
 replies_in (answer.Reply reply) = reply ∷ []
 replies_in (answer.Wait ticket) = []
+replies_in answer.Done = []
 
 -- the status of a reply is one that replies are written with
 abbrev pub HasStatus : Answer → Type 0
 HasStatus (answer.Reply reply) = IsTrue (is_status reply.status)
 HasStatus (answer.Wait ticket) = Unit {0}
+HasStatus answer.Done = Unit {0}
 
 -- the answer is a reply
 abbrev pub IsReply : Answer → Type 0
 IsReply (answer.Reply reply) = Unit {0}
 IsReply (answer.Wait ticket) = ⊥
+IsReply answer.Done = ⊥
 
--- a reply isn't one to a run that was given up: these have the status 500, but for want of memory
+-- the answer is a ticket, or a reply, and no reply to a run that was given up: these have the status 500, but for want of memory
 abbrev pub IsNoPark : Answer → Type 0
 IsNoPark (answer.Reply reply) = reply.status ≢ 500
 IsNoPark (answer.Wait ticket) = Unit {0}
+IsNoPark answer.Done = ⊥
 
--- what the answers to an act are: a call is answered by a reply or waits, a ruling by a reply, and a park by the reply of its reason
+-- what the answers to an act are: a call is answered by a reply or waits, a ruling by a reply, a park by the reply of its reason, and a moment by none
 abbrev pub IsAnswerTo : Act → Answer → Type 0
 IsAnswerTo (act.Call raw) given = IsNoPark given
 IsAnswerTo (act.Finish ticket ruling) given = IsReply given × IsNoPark given
 IsAnswerTo (act.Park ticket why) given = given ≡ answer.Reply (park_reply why)
+IsAnswerTo (act.Tick moment) given = given ≡ answer.Done

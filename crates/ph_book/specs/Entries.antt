@@ -1,8 +1,9 @@
 -- Entries of a history.
-use Rattle.std.specs.Prelude.{ℕ}
+use Rattle.std.specs.Prelude.{ℕ, ◌≤◌}
 use Rattle.ph_base.specs.declared.acquirer.Ruling.{Ruling}
 use Rattle.ph_base.specs.declared.acquirer.Why.{Why}
 use Rattle.ph_attempts.specs.declared.flights.Flight.{Flight}
+use Rattle.ph_rows.specs.Sound.{clock_limit}
 use Rattle.ph_http.specs.declared.message.Raw.{Raw}
 use Rattle.ph_book.specs.declared.acts.Act.{Act}
 use Rattle.ph_book.specs.declared.acts.Act.TheVariants as act
@@ -15,6 +16,7 @@ abbrev pub deed_of : Act → Deed
 deed_of (act.Call raw) = deed.Call raw
 deed_of (act.Finish ticket ruling) = deed.Finish ticket.run ruling
 deed_of (act.Park ticket why) = deed.Park ticket.run why
+deed_of (act.Tick moment) = deed.Tick moment
 
 -- the entry of an act of a caller
 abbrev pub entry_of : ℕ → Act → Entry
@@ -32,8 +34,20 @@ finish_entry caller ticket ruling = record { caller = caller; deed = deed.Finish
 abbrev pub park_entry : ℕ → Flight → Why → Entry
 park_entry caller ticket why = record { caller = caller; deed = deed.Park ticket.run why }
 
+-- the entry of a moment of the clock
+abbrev pub tick_entry : ℕ → ℕ → Entry
+tick_entry caller moment = record { caller = caller; deed = deed.Tick moment }
+
+-- a moment of the clock is one that a clock shows
+abbrev pub IsWithinClock : Deed → Type 0
+IsWithinClock (deed.Call raw) = Unit {0}
+IsWithinClock (deed.Finish run ruling) = Unit {0}
+IsWithinClock (deed.Park run why) = Unit {0}
+IsWithinClock (deed.Tick moment) = moment ≤ clock_limit
+
 -- the act is never refused: a park has its room and its memory from the beginning of its run
 abbrev pub IsGranted : Act → Type 0
 IsGranted (act.Call raw) = ⊥
 IsGranted (act.Finish ticket ruling) = ⊥
 IsGranted (act.Park ticket why) = Unit {0}
+IsGranted (act.Tick moment) = ⊥

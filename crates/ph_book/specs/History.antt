@@ -1,5 +1,5 @@
 -- What happened: a history, read once from its beginning.
-use Rattle.std.specs.Prelude.{ℕ, ◌+◌, List, [], ◌∷◌, ◌++◌, length, Option, Some, None}
+use Rattle.std.specs.Prelude.{ℕ, ◌+◌, max, List, [], ◌∷◌, ◌++◌, length, Option, Some, None}
 use Rattle.std.specs.List.{fold, flat_map}
 use Rattle.ph_base.specs.declared.acquirer.Ruling.{Ruling}
 use Rattle.ph_base.specs.declared.acquirer.Why.{Why}
@@ -28,30 +28,32 @@ use Rattle.ph_book.specs.Replies.{Said, Replies, Waits, Silence, error_reply, sh
 use Rattle.ph_book.specs.Calls.{called_at}
 use Rattle.ph_book.specs.Runs.{after_step, run_in}
 
--- what an entry comes to: what is said to it, the rows that it makes, and its step of an attempt
+-- what an entry comes to: what is said to it, the rows that it makes, its step of an attempt, and the time after it
 pub record Effect : Type 0 where
   pub said : Said
   pub rows : List Row
   pub step : Option Step
+  pub now : ℕ
 
--- an entry that comes to nothing
-abbrev pub nothing : Effect
-nothing = record { said = Silence; rows = []; step = None }
+-- an entry that comes to nothing at this time
+abbrev pub nothing : ℕ → Effect
+nothing now = record { said = Silence; rows = []; step = None; now = now }
 
 -- an accepted call: where its batch begins an attempt with this order, a run, whose number is the call's place; else a reply. No event keeps a key yet
-abbrev pub added_effect : List Row → ℕ → ℕ → ℕ → BatchState → Option Order → Effect
-added_effect rows place caller object batch None =
-    record { said = Replies (shown_reply rows object batch); rows = made_rows None batch; step = None }
-added_effect rows place caller object batch (Some order) = record {
+abbrev pub added_effect : List Row → ℕ → ℕ → ℕ → ℕ → BatchState → Option Order → Effect
+added_effect rows now place caller object batch None =
+    record { said = Replies (shown_reply rows object batch); rows = made_rows None batch; step = None; now = now }
+added_effect rows now place caller object batch (Some order) = record {
   said = Waits order;
   rows = made_rows None batch;
   step = Some (Begins (record { caller = caller; run = place; order = order }));
+  now = now;
 }
 
 -- a call
-abbrev pub call_effect : List Row → ℕ → ℕ → Outcome → Effect
-call_effect rows place caller (Refuses error) = record { said = Replies (error_reply error); rows = []; step = None }
-call_effect rows place caller (Adds object batch) = added_effect rows place caller object batch (begun batch)
+abbrev pub call_effect : List Row → ℕ → ℕ → ℕ → Outcome → Effect
+call_effect rows now place caller (Refuses error) = record { said = Replies (error_reply error); rows = []; step = None; now = now }
+call_effect rows now place caller (Adds object batch) = added_effect rows now place caller object batch (begun batch)
 
 -- the rows that an outcome makes: those of its batch, with its events
 abbrev pub outcome_rows : Outcome → List Row
@@ -60,11 +62,12 @@ outcome_rows (Adds object batch) = made_rows None batch
 
 -- the ruling on the order of a run, where that is live: its attempt is settled
 abbrev pub finish_effect : List Row → ℕ → ℕ → Ruling → Option Flight → Effect
-finish_effect rows now place ruling None = nothing
+finish_effect rows now place ruling None = nothing now
 finish_effect rows now place ruling (Some flight) = record {
   said = Replies (ruling_reply rows ruling (settle_outcome rows flight.order.reference ruling (empty_batch (length rows) now place)));
   rows = outcome_rows (settle_outcome rows flight.order.reference ruling (empty_batch (length rows) now place));
   step = Some (Settles flight);
+  now = now;
 }
 
 -- the batch with a version of an attempt that waits to be taken up again, where a row is one of an attempt
@@ -83,18 +86,24 @@ parked_rows rows now place attempt = (parked_from (empty_batch (length rows) now
 
 -- a run that is given up, where it is live: its attempt waits to be taken up again
 abbrev pub park_effect : List Row → ℕ → ℕ → Why → Option Flight → Effect
-park_effect rows now place why None = nothing
+park_effect rows now place why None = nothing now
 park_effect rows now place why (Some flight) = record {
   said = Replies (park_reply why);
   rows = parked_rows rows now place flight.order.reference;
   step = Some (Parks flight);
+  now = now;
 }
+
+-- a moment of the clock: the time is never set back
+abbrev pub tick_effect : ℕ → ℕ → Effect
+tick_effect now moment = nothing (max now moment)
 
 -- what a caller's deed comes to, over these rows at this time with these attempts, as the entry of a place: it ends a run of its own caller, or none
 abbrev pub effect_of : Setup → List Row → ℕ → List flights.Attempt → ℕ → ℕ → Deed → Effect
-effect_of setup rows now attempts place caller (deed.Call raw) = call_effect rows place caller (called_at setup.key rows now place raw)
+effect_of setup rows now attempts place caller (deed.Call raw) = call_effect rows now place caller (called_at setup.key rows now place raw)
 effect_of setup rows now attempts place caller (deed.Finish run ruling) = finish_effect rows now place ruling (run_in attempts caller run)
 effect_of setup rows now attempts place caller (deed.Park run why) = park_effect rows now place why (run_in attempts caller run)
+effect_of setup rows now attempts place caller (deed.Tick moment) = tick_effect now moment
 
 -- one thing that happened: the entry, what was said to it, the rows that it made, its step of an attempt, and the time after it
 pub record Happening : Type 0 where
@@ -126,9 +135,9 @@ time_after setup past = fold (λ now h. h.now) setup.opened past
 abbrev pub attempts_after : List Happening → List flights.Attempt
 attempts_after past = fold (λ attempts h. after_step attempts h.step) [] past
 
--- an entry happens with this effect, at this time: no entry changes the time yet
-abbrev pub happens : Entry → Effect → ℕ → Happening
-happens entry effect now = record { entry = entry; said = effect.said; rows = effect.rows; step = effect.step; now = now }
+-- an entry happens with this effect
+abbrev pub happens : Entry → Effect → Happening
+happens entry effect = record { entry = entry; said = effect.said; rows = effect.rows; step = effect.step; now = effect.now }
 
 -- what an entry comes to after what happened
 abbrev pub effect_after : Setup → List Happening → Entry → Effect
@@ -136,7 +145,7 @@ effect_after setup past entry =
     effect_of setup (rows_after setup past) (time_after setup past) (attempts_after past) (length past + 1) entry.caller entry.deed
 
 abbrev pub happening_of : Setup → List Happening → Entry → Happening
-happening_of setup past entry = happens entry (effect_after setup past entry) (time_after setup past)
+happening_of setup past entry = happens entry (effect_after setup past entry)
 
 -- one entry more
 abbrev pub and_then : Setup → List Happening → Entry → List Happening

@@ -9,6 +9,7 @@ use Rattle.ph_book.specs.declared.setup.Setup.{Setup}
 use Rattle.ph_book.specs.declared.acts.Entry.{Entry}
 use Rattle.ph_book.specs.declared.acts.Deed.{Deed}
 use Rattle.ph_book.specs.declared.acts.Deed.TheVariants as deed
+use Rattle.ph_book.specs.Entries.{IsWithinClock}
 use Rattle.ph_book.specs.History.{Happening, rows_after, attempts_after, and_then, past_of}
 use Rattle.ph_book.specs.Runs.{IsLive, live_of}
 
@@ -28,6 +29,7 @@ abbrev pub deed_weight : Deed → ℕ
 deed_weight (deed.Call raw) = raw_weight raw
 deed_weight (deed.Finish run ruling) = 0
 deed_weight (deed.Park run why) = 0
+deed_weight (deed.Tick moment) = 0
 
 -- the weight of what happened: that of the calls, and that of the rows
 abbrev pub weight_after : Setup → List Happening → ℕ
@@ -37,12 +39,13 @@ weight_after setup past = sum_by (λ h. deed_weight h.entry.deed) past + rows_we
 abbrev pub used_after : List Happening → ℕ
 used_after past = length past + length (live_of (attempts_after past))
 
--- a deed has no room where so many places are taken and so much weighs: a call takes two places, and its weight; the end of a run has its place from the run's beginning
+-- a deed has no room where so many places are taken and so much weighs: a call takes two places, and its weight; a moment takes one; the end of a run has its place from the run's beginning
 abbrev pub is_full_at : Setup → ℕ → ℕ → Deed → Bool
 is_full_at setup used weight (deed.Call raw) =
     nat_lt setup.entries (used + 2) || nat_lt setup.weight (weight + raw_weight raw)
 is_full_at setup used weight (deed.Finish run ruling) = false
 is_full_at setup used weight (deed.Park run why) = false
+is_full_at setup used weight (deed.Tick moment) = nat_lt setup.entries (used + 1)
 
 -- a deed has no room after what happened
 abbrev pub is_full_after : Setup → List Happening → Deed → Bool
@@ -57,10 +60,12 @@ abbrev pub EndsOwn : List Attempt → ℕ → Deed → Type 0
 EndsOwn attempts caller (deed.Call raw) = Unit {0}
 EndsOwn attempts caller (deed.Finish run ruling) = IsLive attempts caller run
 EndsOwn attempts caller (deed.Park run why) = IsLive attempts caller run
+EndsOwn attempts caller (deed.Tick moment) = Unit {0}
 
 -- an entry may come after what happened
 pub record IsAllowed (setup : Setup) (past : List Happening) (entry : Entry) : Type 0 where
   pub caller : entry.caller < 2 ^ 62
+  pub clock : IsWithinClock entry.deed
   pub own : EndsOwn (attempts_after past) entry.caller entry.deed
   pub room : is_full_after setup past entry.deed ≡ false
 

@@ -69,7 +69,7 @@ problem_of why.NoMemory = NoMemory
 abbrev pub park_reply : Why → Reply
 park_reply why = error_reply (error_of (problem_of why))
 
--- what is said to an entry: a reply; that it waits for the acquirer to rule on an order; or nothing, where it ends no run
+-- what is said to an entry: a reply; that it waits for the acquirer to rule on an order; or nothing, to a moment of the clock, and where an entry ends no run
 pub data Said : Type 0 where
   Replies : Reply → Said
   Waits : Order → Said

@@ -19,8 +19,10 @@ abbrev pub SpendsOwn : Setup → List Entry → ℕ → Act → Type 0
 SpendsOwn setup history caller (act.Call raw) = Unit {0}
 SpendsOwn setup history caller (act.Finish ticket ruling) = Holds setup history caller ticket
 SpendsOwn setup history caller (act.Park ticket why) = Holds setup history caller ticket
+SpendsOwn setup history caller (act.Tick moment) = Unit {0}
 
 -- the ticket of an answer is that of a live run of this caller
 abbrev pub HandsOut : Setup → List Entry → ℕ → Answer → Type 0
 HandsOut setup history caller (answer.Reply reply) = Unit {0}
 HandsOut setup history caller (answer.Wait ticket) = Holds setup history caller ticket
+HandsOut setup history caller answer.Done = Unit {0}

@@ -12,6 +12,9 @@ pub enum Act {
     Finish(Ticket, Ruling),
     /// A run is given up before its acquirer has ruled: its attempt waits to be taken up again.
     Park(Ticket, Why),
+    /// The clock shows this moment, in seconds since 1970, at most the end of the year 9999: the time becomes the
+    /// greater of the two.
+    Tick(u64),
 }
 
 /// What stands of an act in the history. A run has the place of the entry that began it as its number.
@@ -23,6 +26,8 @@ pub enum Deed {
     Finish(u64, Ruling),
     /// The run with this number was given up.
     Park(u64, Why),
+    /// The clock showed this moment.
+    Tick(u64),
 }
 
 /// An entry of the history.
@@ -40,4 +45,6 @@ pub enum Answer {
     /// The request waits until the acquirer has ruled on the ticket's order: whoever holds the ticket finishes its run
     /// or parks it, and that act's answer is the reply.
     Wait(Ticket),
+    /// A moment of the clock was entered: nothing is said to it.
+    Done,
 }

@@ -7,9 +7,9 @@ ghost use Rattle.ph_book.specs.declared.acts.Deed.TheVariants as deed;
 ghost use Rattle.ph_book.specs.State.{BookState, entered};
 ghost use Rattle.ph_book.specs.Answers.{HasStatus, IsAnswerTo, Says, replies_in};
 ghost use Rattle.ph_book.specs.Called.{IsCalled};
-ghost use Rattle.ph_book.specs.Entries.{IsGranted, call_entry, deed_of, entry_of, finish_entry, park_entry};
-ghost use Rattle.ph_book.specs.History.{effect_to, opening_row, replies_of, said_to};
-ghost use Rattle.ph_book.specs.Replies.{Replies, park_reply};
+ghost use Rattle.ph_book.specs.Entries.{IsGranted, IsWithinClock, call_entry, deed_of, entry_of, finish_entry, park_entry, tick_entry};
+ghost use Rattle.ph_book.specs.History.{effect_to, opening_row, replies_of, said_to, time_of};
+ghost use Rattle.ph_book.specs.Replies.{Replies, Silence, park_reply};
 ghost use Rattle.ph_book.specs.Legal.{is_full, IsLegal};
 ghost use Rattle.ph_book.specs.Tickets.{HandsOut, Holds, SpendsOwn};
 
@@ -104,6 +104,7 @@ impl Book {
     pub fn apply(&mut self, caller: u64, act: Act) -> Result<Answer, (Act, Refused)>
         requires caller { caller < 2 ^ 62 }
         requires own { SpendsOwn self.old.setup self.old.history caller act }
+        requires clock { IsWithinClock (deed_of act) }
         ensures entry { OnOk result (self.new ≡ entered self.old (entry_of caller act)) }
         ensures answer { IfOk result (λ answer. Says (length self.old.history + 1) caller (said_to self.old.setup self.old.history (entry_of caller act)) answer) }
         ensures kind { IfOk result (λ answer. IsAnswerTo act answer) }
@@ -125,6 +126,10 @@ impl Book {
                 Err(ticket) => Err((Act::Finish(ticket, ruling), Refused::NoMemory)),
             },
             Act::Park(ticket, why) => Ok(Answer::Reply(self.park(caller, ticket, why))),
+            Act::Tick(moment) => match self.tick(caller, moment) {
+                Ok(()) => Ok(Answer::Done),
+                Err(refused) => Err((Act::Tick(moment), refused)),
+            },
         }
     }
 
@@ -156,7 +161,7 @@ impl Book {
     fn enter_called(&mut self, caller: u64, raw: Raw, called: Called) -> Result<Answer, Raw>
         requires caller { caller < 2 ^ 62 }
         requires room { is_full self.old.setup self.old.history (deed.Call raw) ≡ false }
-        requires called { IsCalled (length self.old.history + 1) caller (effect_to self.old.setup self.old.history (call_entry caller raw)) called }
+        requires called { IsCalled (time_of self.old.setup self.old.history) (length self.old.history + 1) caller (effect_to self.old.setup self.old.history (call_entry caller raw)) called }
         ensures entry { OnOk result (self.new ≡ entered self.old (call_entry caller raw)) }
         ensures answer { IfOk result (λ answer. Says (length self.old.history + 1) caller (said_to self.old.setup self.old.history (call_entry caller raw)) answer) }
         ensures live { IfOk result (λ answer. HandsOut self.new.setup self.new.history caller answer) }
@@ -180,6 +185,7 @@ impl Book {
         requires room { is_full self.old.setup self.old.history (deed.Call raw) ≡ false }
         requires rows { (effect_to self.old.setup self.old.history (call_entry caller raw)).rows ≡ rows.items }
         requires step { (effect_to self.old.setup self.old.history (call_entry caller raw)).step ≡ None }
+        requires now { (effect_to self.old.setup self.old.history (call_entry caller raw)).now ≡ time_of self.old.setup self.old.history }
         ensures entry { OnOk result (self.new ≡ entered self.old (call_entry caller raw)) }
         ensures unchanged { IfErr result (λ back. (back ≡ raw) × (self.new ≡ self.old)) }
     {
@@ -206,6 +212,7 @@ impl Book {
         requires room { is_full self.old.setup self.old.history (deed.Call raw) ≡ false }
         requires rows { (effect_to self.old.setup self.old.history (call_entry caller raw)).rows ≡ rows.items }
         requires step { (effect_to self.old.setup self.old.history (call_entry caller raw)).step ≡ Some (Begins (record { caller = caller; run = length self.old.history + 1; order = order })) }
+        requires now { (effect_to self.old.setup self.old.history (call_entry caller raw)).now ≡ time_of self.old.setup self.old.history }
         ensures entry { OnOk result (self.new ≡ entered self.old (call_entry caller raw)) }
         ensures ticket { IfOk result (λ ticket. ticket ≡ record { caller = caller; run = length self.old.history + 1; order = order }) }
         ensures live { IfOk result (λ ticket. Holds self.new.setup self.new.history caller ticket) }
@@ -294,6 +301,32 @@ impl Book {
         push_row(&mut self.view, row);
         self.live = live;
         take_spare(&mut self.spares).reply(why)
+    }
+
+    // Enters a moment of the clock.
+    fn tick(&mut self, caller: u64, moment: u64) -> Result<(), Refused>
+        requires caller { caller < 2 ^ 62 }
+        requires clock { moment ≤ clock_limit }
+        ensures entry { OnOk result (self.new ≡ entered self.old (tick_entry caller moment)) }
+        ensures said { said_to self.old.setup self.old.history (tick_entry caller moment) ≡ Silence }
+        ensures unchanged { OnErr result (self.new ≡ self.old) }
+        ensures full { IfErr result (λ refused. (refused ≡ Refused.Full) ↔ IsTrue (is_full self.old.setup self.old.history (deed.Tick moment))) }
+        ensures room { OnOk result (is_full self.old.setup self.old.history (deed.Tick moment) ≡ false) }
+    {
+        let used = self.entries.len() as u64 + self.live as u64;
+        if weights::has_no_place(&self.setup, used) {
+            return Err(Refused::Full);
+        }
+        match take_room(&mut self.entries, &mut self.view, 0, self.live) {
+            Ok(()) => {}
+            Err(NoMemory) => return Err(Refused::NoMemory),
+        }
+        self.entries.push_reserved(Entry {
+            caller,
+            deed: Deed::Tick(moment),
+        });
+        self.view.set_time(self.view.time().max(moment));
+        Ok(())
     }
 
     /// Its entries, the oldest first. They are a legal history.

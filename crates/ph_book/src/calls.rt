@@ -156,7 +156,7 @@ fn outcome(
 
 // What an accepted call comes to, which shows an object: a run where its batch begins an attempt, and else a reply.
 fn added(alloc: Global, view: &ListView, object: u64, batch: Batch) -> Result<Called, NoMemory>
-    ensures { (place caller : ℕ) → IfOk result (λ called. IsCalled place caller (added_effect view.now.rows place caller object batch (begun batch)) called) }
+    ensures { (place caller : ℕ) → IfOk result (λ called. IsCalled view.now.time place caller (added_effect view.now.rows view.now.time place caller object batch (begun batch)) called) }
 {
     match begun(&batch) {
         None => {
@@ -175,7 +175,7 @@ pub fn called_by(
     place: u64,
     raw: &Raw,
 ) -> Result<Called, NoMemory>
-    ensures { (caller : ℕ) → IfOk result (λ called. IsCalled place caller (call_effect view.now.rows place caller (called_at key.now view.now.rows view.now.time place raw.now)) called) }
+    ensures { (caller : ℕ) → IfOk result (λ called. IsCalled view.now.time place caller (call_effect view.now.rows view.now.time place caller (called_at key.now view.now.rows view.now.time place raw.now)) called) }
 {
     let mut batch = Batch::new(alloc, view.rows().len() as u64, view.time(), place);
     match outcome(alloc, key, view, raw, &mut batch) {

@@ -86,6 +86,14 @@ pub fn is_full(setup: &Setup, used: u64, weight: u64, raw: &Raw) -> bool
     (setup.entries as u64) < used + 2 || is_too_heavy(setup.weight, weight, raw)
 }
 
+/// Whether no place is left for one entry more, where so many are taken.
+pub fn has_no_place(setup: &Setup, used: u64) -> bool
+    requires { used < 2 ^ 63 }
+    ensures { result ≡ nat_lt setup.now.entries (used + 1) }
+{
+    (setup.entries as u64) < used + 1
+}
+
 // Whether a weight and that of a request are above a limit.
 fn is_too_heavy(limit: u64, weight: u64, raw: &Raw) -> bool
     ensures { result ≡ nat_lt limit (weight + raw_weight raw.now) }

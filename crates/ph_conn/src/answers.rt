@@ -68,6 +68,7 @@ fn call(book: &mut Book, raw: Raw) -> Called
             Called::Replied(reply)
         }
         Ok(Answer::Wait(ticket)) => Called::Waiting(ticket),
+        Ok(Answer::Done) => unreachable!(),
         Err((act, why)) => {
             let Act::Call(_) = act else { unreachable!() };
             match why {

@@ -149,7 +149,7 @@ fn a_book_shows_its_history_and_its_rows(rt: HostRuntime) -> Result<(), Fail> {
                 Deed::Call(raw) => {
                     assert_eq!(rt; raw.body.as_slice(), b"amount=2000&currency=usd".as_slice());
                 }
-                Deed::Finish(_, _) | Deed::Park(_, _) => assert!(rt; false),
+                Deed::Finish(_, _) | Deed::Park(_, _) | Deed::Tick(_) => assert!(rt; false),
             }
         }
         None => assert!(rt; false),

@@ -51,6 +51,7 @@ pub fn came_of(book: &mut Book, raw: Raw, end: End) -> Came {
             End::Finish(ruling) => Came::Reply(finish(book, ticket, ruling)),
             End::Park(why) => Came::Reply(park(book, ticket, why)),
         },
+        Ok(Answer::Done) => unreachable!(),
         Err((Act::Call(_), _)) => Came::Refused,
         Err(_) => unreachable!(),
     }

@@ -9,6 +9,6 @@ use Rattle.ph_book.proofs.calls.called_by.Goals as goal
 pub returns-in-Ok : goal.returns-in-Ok
 returns-in-Ok c caller =
     let place = ap (λ (batch : BatchState). batch.entry) c.new-batch.ensures in
-    subst (λ (outcome : Outcome). IfOk c.added.result (λ called. IsCalled c.args.place caller (call_effect c.args.view.now.rows c.args.place caller outcome) called))
+    subst (λ (outcome : Outcome). IfOk c.added.result (λ called. IsCalled c.args.view.now.time c.args.place caller (call_effect c.args.view.now.rows c.args.view.now.time c.args.place caller outcome) called))
     (sym c.in-Ok.ensures ∙ ap (λ entry. called_at c.args.key.now c.args.view.now.rows c.args.view.now.time entry c.args.raw.now) place)
     (c.added.ensures c.args.place caller)

@@ -7,7 +7,7 @@ use Rattle.ph_book.specs.Legal.{raw_weight}
 use Rattle.ph_book.specs.State.{BookState}
 use Rattle.ph_book.specs.Tickets.{Holds}
 use Rattle.ph_book.proofs.HistoryLemmas.{book_is}
-use Rattle.ph_book.proofs.StepLemmas.{begin_book, begin_new, begun_held}
+use Rattle.ph_book.proofs.StepLemmas.{begin_book, begin_new, begun_held, time_now}
 use Rattle.ph_book.proofs.book.Book.begin.Goals as goal
 
 pub begin-requires : goal.begin-requires
@@ -23,7 +23,8 @@ invariant_of-self-2 c =
     let count = ap length c.push_reserved.ensures.items ∙ length-append c.take_room.new.entries.items (call_entry c.args.caller c.args.raw ∷ []) in
     let spares = c.self.invariant.1.for_replies in (
       book_is _ _ _ _ _ _ _ _ _ _ _ _
-          (begin_book _ _ _ _ _ _ _ _ c.args.caller c.args.raw c.args.rows.items flight c.self.view_is c.self.invariant.0 c.requires.caller c.requires.room c.requires.rows c.requires.step)
+          (begin_book _ _ _ _ _ _ _ _ c.args.caller c.args.raw c.args.rows.items flight c.self.view_is c.self.invariant.0 c.requires.caller c.requires.room c.requires.rows c.requires.step
+          (c.requires.now ∙ time_now _ _ _ _ _ _ _ _ c.self.view_is c.self.invariant.0))
           entries (c.append_reserved.ensures.rows ∙ ap (λ rows. rows ++ c.args.rows.items) c.in-Ok.ensures.rows)
           (c.append_reserved.ensures.time ∙ c.in-Ok.ensures.time) weight
           (c.in-Ok-begin.ensures.after ∙ ap (λ (f : Flight). after c.self.inside.attempts (Begins f)) ticket),
@@ -42,7 +43,8 @@ returns-clause-live c =
     let ticket : c.in-Ok-begin.ticket ≡ flight = c.in-Ok-begin.ensures.ticket ∙ ap (λ n. record { caller = c.args.caller; run = n; order = c.args.order }) run in
     let entries = c.push_reserved.ensures.items ∙ ap (λ history. history ++ call_entry c.args.caller c.args.raw ∷ []) c.in-Ok.ensures.entries in
     let new : BookState = record { setup = c.self.inside.setup; history = c.push_reserved.new.self.items } in
-    let grown = begin_book _ _ _ _ _ _ _ _ c.args.caller c.args.raw c.args.rows.items flight c.self.view_is c.self.invariant.0 c.requires.caller c.requires.room c.requires.rows c.requires.step in
+    let grown = begin_book _ _ _ _ _ _ _ _ c.args.caller c.args.raw c.args.rows.items flight c.self.view_is c.self.invariant.0 c.requires.caller c.requires.room c.requires.rows c.requires.step
+    (c.requires.now ∙ time_now _ _ _ _ _ _ _ _ c.self.view_is c.self.invariant.0) in
     subst (λ (t : Flight). Holds new.setup new.history c.args.caller t) (sym ticket)
     (begun_held _ new _ _ _ _ _ _ _ _ _ _ (call_entry c.args.caller c.args.raw) flight c.self.view_is c.self.invariant.0 grown
     (ap (λ history. record { setup = c.self.inside.setup; history = history }) entries) refl)

@@ -3,7 +3,7 @@ use Rattle.ph_rows.specs.Weights.{rows_weight}
 use Rattle.ph_book.specs.Entries.{call_entry}
 use Rattle.ph_book.specs.Legal.{raw_weight}
 use Rattle.ph_book.proofs.HistoryLemmas.{book_is}
-use Rattle.ph_book.proofs.StepLemmas.{call_book}
+use Rattle.ph_book.proofs.StepLemmas.{call_book, time_now}
 use Rattle.ph_book.proofs.book.Book.enter.Goals as goal
 
 pub invariant_of-self-2 : goal.invariant_of-self-2
@@ -14,7 +14,8 @@ invariant_of-self-2 c =
     let weight = c.in-Some.ensures.0 ∙ ap (λ rows. (c.self.inside.weight + raw_weight c.args.raw) + rows_weight rows) c.as_slice.ensures.value in
     let count = ap length c.push_reserved.ensures.items ∙ length-append c.take_room.new.entries.items (call_entry c.args.caller c.args.raw ∷ []) in (
       book_is _ _ _ _ _ _ _ _ _ _ _ _
-          (call_book _ _ _ _ _ _ _ _ c.args.caller c.args.raw c.args.rows.items None _ c.self.view_is book c.requires.caller c.requires.room c.requires.rows c.requires.step book.live_is)
+          (call_book _ _ _ _ _ _ _ _ c.args.caller c.args.raw c.args.rows.items None _ _ c.self.view_is book c.requires.caller c.requires.room c.requires.rows c.requires.step
+          (c.requires.now ∙ time_now _ _ _ _ _ _ _ _ c.self.view_is book) book.live_is)
           entries (c.append_reserved.ensures.rows ∙ ap (λ rows. rows ++ c.args.rows.items) c.in-Ok.ensures.rows)
           (c.append_reserved.ensures.time ∙ c.in-Ok.ensures.time) weight refl,
       record {
