@@ -1,3 +1,4 @@
-mod BalanceLemmas
+pub mod BalanceLemmas
+pub mod ChargeLemmas
 mod MetadataLemmas
 pub mod SoundLemmas

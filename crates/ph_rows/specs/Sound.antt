@@ -1,13 +1,16 @@
 -- What holds of the rows of every legal history.
-use Rattle.std.specs.Prelude.{◌≡◌, ℕ, ◌+◌, ◌^◌, ◌≤◌, ◌<◌, true, List, [], ◌∷◌, ◌++◌, Option, None, Some, length}
+use Rattle.std.specs.Prelude.{◌≡◌, ℕ, ◌+◌, ◌^◌, ◌≤◌, ◌<◌, true, pos, List, [], ◌∷◌, ◌++◌, Option, None, Some, length}
 use Rattle.std.specs.List.{list_all}
 use Rattle.std.specs.Str.{is_utf8}
 use Rattle.ph_rows.specs.declared.rows.Row.{Row}
 use Rattle.ph_rows.specs.declared.items.Item.TheVariants as item
+use Rattle.ph_rows.specs.declared.charges.Charge.{Charge}
 use Rattle.ph_rows.specs.declared.events.Event.{Event}
 use Rattle.ph_rows.specs.Kinds.{kind_of}
 use Rattle.ph_rows.specs.Words.{subject_of}
-use Rattle.ph_rows.specs.Rows.{row_at}
+use Rattle.ph_rows.specs.Rows.{row_at, latest_of}
+use Rattle.ph_rows.specs.References.{names_of, AreThere, is_made_once}
+use Rattle.ph_rows.specs.Transactions.{captured_of, refunded_of}
 use Rattle.ph_rows.specs.Views.{ViewState}
 use Rattle.ph_rows.specs.Weights.{texts_of}
 
@@ -37,8 +40,24 @@ abbrev pub HasSubject : Option Row → Row → Event → Type 0
 HasSubject None row event = ⊥
 HasSubject (Some first) row event = SpeaksOf first row event
 
--- what holds of the rows and the time of every legal history
-pub record IsSound (state : ViewState) : Type 0 where
+-- the amounts of a version of a charge are what its transactions and refunds add up to
+pub record HasSums (object : ℕ) (charge : Charge) (rows : List Row) : Type 0 where
+  -- what was captured is the sum of its transactions
+  pub captured : pos charge.amount_captured ≡ captured_of object rows
+  -- what was refunded is the sum of its refunds
+  pub refunded : charge.amount_refunded ≡ refunded_of object rows
+  -- no more was captured than the acquirer was asked for
+  pub within_amount : charge.amount_captured ≤ charge.amount
+  -- no more was refunded than was captured
+  pub within_captured : charge.amount_refunded ≤ charge.amount_captured
+
+-- the present version of every charge has these amounts
+abbrev pub HaveSums : List Row → Type 0
+HaveSums rows = (object : ℕ) (row : Row) (charge : Charge) → latest_of object rows ≡ Some row → row.item ≡ item.Charge charge
+    → HasSums object charge rows
+
+-- what holds of the time and of each row, as soon as the row is added
+pub record IsInOrder (state : ViewState) : Type 0 where
   -- the time is one that a clock shows
   pub clock : state.time ≤ clock_limit
   -- sixteen digits number the rows
@@ -49,13 +68,24 @@ pub record IsSound (state : ViewState) : Type 0 where
   pub begun : (place : ℕ) (row : Row) → row_at place state.rows ≡ Some row → HasBegun (row_at row.object state.rows) row
   -- no version of an object stands before its first one
   pub first : (place : ℕ) (row : Row) → row_at place state.rows ≡ Some row → row.object ≤ place
+  -- refunds, transactions and events have one version
+  pub once : (place : ℕ) (row : Row) → row_at place state.rows ≡ Some row → is_made_once row.item ≡ true → row.object ≡ place
   -- no row is of a later time
   pub past : (place : ℕ) (row : Row) → row_at place state.rows ≡ Some row → row.at ≤ state.time
   -- every text is UTF-8
   pub texts : (place : ℕ) (row : Row) → row_at place state.rows ≡ Some row → list_all is_utf8 (texts_of row.item) ≡ true
+  -- the objects that a row names are there
+  pub names : (place : ℕ) (row : Row) → row_at place state.rows ≡ Some row → AreThere state.rows (names_of row.item)
   -- an event stands after the first version of its object, which is of its account and of its type's kind
   pub events : (place : ℕ) (row : Row) (event : Event) → row_at place state.rows ≡ Some row → row.item ≡ item.Event event
       → (event.object < place) × HasSubject (row_at event.object state.rows) row event
+
+-- what holds of the rows and the time of every legal history
+pub record IsSound (state : ViewState) : Type 0 where
+  -- each row is one that may stand where it stands
+  pub order : IsInOrder state
+  -- the amounts of the charges are the sums of what was entered for them
+  pub charges : HaveSums state.rows
 
 -- the view with one row more
 abbrev pub with_next : ViewState → Row → ViewState
@@ -68,7 +98,9 @@ pub record MayFollow (state : ViewState) (row : Row) : Type 0 where
   pub at : row.at ≡ state.time
   pub begun : HasBegun (row_at row.object (state.rows ++ row ∷ [])) row
   pub first : row.object ≤ row.place
+  pub once : is_made_once row.item ≡ true → row.object ≡ row.place
   pub texts : list_all is_utf8 (texts_of row.item) ≡ true
+  pub names : AreThere state.rows (names_of row.item)
   pub events : (event : Event) → row.item ≡ item.Event event → HasSubject (row_at event.object state.rows) row event
 
 -- rows that an entry may add one after another

@@ -1,5 +1,5 @@
 //! A view that keeps its rows in a list and reads them one by one.
-ghost use Rattle.std.specs.Prelude.{◌≡◌, ◌<◌, ◌≤◌, ◌++◌, ◌^◌, length, [], OnOk, OnErr};
+ghost use Rattle.std.specs.Prelude.{◌≡◌, ◌<◌, ◌≤◌, ◌++◌, ◌∷◌, ◌^◌, length, [], OnOk, OnErr};
 
 use crate::rows::Row;
 use crate::scans;
@@ -78,6 +78,19 @@ impl ListView {
             Ok(()) => {}
             Err(_) => unreachable!(),
         }
+    }
+
+    /// Adds a row. Where memory is wanting, or there would be too many rows, the time and the rows stay as they are.
+    pub fn push(&mut self, row: Row) -> Result<(), NoMemory>
+        ensures time { self.new.time ≡ self.old.time }
+        ensures ok { OnOk result (self.new.rows ≡ self.old.rows ++ row ∷ []) }
+        ensures err { OnErr result (self.new.rows ≡ self.old.rows) }
+    {
+        if self.rows.len() == ListView::MOST {
+            return Err(NoMemory);
+        }
+        self.rows.push(row)?;
+        Ok(())
     }
 
     /// The rows in their order.
