@@ -8,11 +8,11 @@ use Rattle.std.proofs.lemmas.Option.{slice_get_within}
 use Rattle.ph_rows.specs.declared.rows.Row.{Row}
 use Rattle.ph_rows.specs.declared.items.Item.TheVariants as item
 use Rattle.ph_rows.specs.declared.events.Event.{Event}
-use Rattle.ph_rows.specs.References.{Name, AreThere, IsNamedHere, is_made_once, names_of}
+use Rattle.ph_rows.specs.Origins.{Origin, HasOrigin, IsOrigin, is_made_once, origin_of}
 use Rattle.ph_rows.specs.Rows.{row_at, later_version, latest_of}
 use Rattle.ph_rows.specs.Views.{ViewState}
 use Rattle.ph_rows.specs.Weights.{texts_of}
-use Rattle.ph_rows.specs.Sound.{clock_limit, HasBegun, HasSubject, HaveSums, IsInOrder, IsSound, with_next, MayFollow, AllMayFollow}
+use Rattle.ph_rows.specs.Sound.{clock_limit, AreHeld, HasBegun, HasSubject, HaveSums, IsInOrder, IsSound, with_next, MayFollow, AllMayFollow}
 
 -- which of two was chosen
 pub picked : {A : Type 0} (b : Bool) (x y z : A) → cond b x y ≡ z → ((b ≡ true) × (x ≡ z)) ⊎ ((b ≡ false) × (y ≡ z))
@@ -108,20 +108,14 @@ has_subject-before rows more row event h = at (row_at event.object rows) refl h
     at None e h = absurd h
     at (Some first) e h = subst (λ o. HasSubject o row event) (sym (row_at-before event.object rows more first e)) h
 
--- a named object that is there is there with more rows behind
-is_named-before : (rows more : List Row) (name : Name) → IsNamedHere (row_at name.number rows) name
-    → IsNamedHere (row_at name.number (rows ++ more)) name
-is_named-before rows more name h = at (row_at name.number rows) refl h
+-- what an item was made for stays there with more rows behind
+pub has_origin-before : (rows more : List Row) (made_for : Option Origin) → HasOrigin rows made_for → HasOrigin (rows ++ more) made_for
+has_origin-before rows more None h = tt
+has_origin-before rows more (Some origin) h = at (row_at origin.number rows) refl h
   where
-    at : (o : Option Row) → row_at name.number rows ≡ o → IsNamedHere o name
-        → IsNamedHere (row_at name.number (rows ++ more)) name
+    at : (o : Option Row) → row_at origin.number rows ≡ o → IsOrigin o origin → IsOrigin (row_at origin.number (rows ++ more)) origin
     at None e h = absurd h
-    at (Some first) e h = subst (λ o. IsNamedHere o name) (sym (row_at-before name.number rows more first e)) h
-
--- named objects that are there are there with more rows behind
-pub are_there-before : (rows more : List Row) (names : List Name) → AreThere rows names → AreThere (rows ++ more) names
-are_there-before rows more [] h = tt
-are_there-before rows more (name ∷ names) h = (is_named-before rows more name h.0, are_there-before rows more names h.1)
+    at (Some first) e h = subst (λ o. IsOrigin o origin) (sym (row_at-before origin.number rows more first e)) h
 
 -- the subject of an event stands among the rows
 subject_within : (rows : List Row) (row : Row) (event : Event) → HasSubject (row_at event.object rows) row event
@@ -143,7 +137,7 @@ order_empty time clock = record {
   once = λ place row e is. none place row e;
   past = λ place row e. none place row e;
   texts = λ place row e. none place row e;
-  names = λ place row e. none place row e;
+  origins = λ place row e. none place row e;
   events = λ place row event e is. none place row e;
 }
   where
@@ -155,6 +149,7 @@ pub sound_empty : (time : ℕ) → time ≤ clock_limit → IsSound (record { ti
 sound_empty time clock = record {
   order = order_empty time clock;
   charges = λ object row charge e is. absurd (cc);
+  held = λ object row intent e is waits. absurd (cc);
 }
 
 -- rows in order stay so at a later time
@@ -169,7 +164,7 @@ order_later state now order later clock = record {
   once = order.once;
   past = λ place row e. (let before : row.at ≤ state.time = order.past place row e in omega arith);
   texts = order.texts;
-  names = order.names;
+  origins = order.origins;
   events = order.events;
 }
 
@@ -178,6 +173,7 @@ pub sound_later : (state : ViewState) (now : ℕ) → IsSound state → state.ti
 sound_later state now sound later clock = record {
   order = order_later state now sound.order later clock;
   charges = sound.charges;
+  held = sound.held;
 }
 
 -- rows in order stay so with a row that may follow
@@ -209,9 +205,9 @@ order_with state new order follows = record {
     | inl old ↦ order.texts place row old
     | inr last ↦ subst (λ (r : Row). list_all is_utf8 (texts_of r.item) ≡ true) last.1 follows.texts
   ];
-  names = λ place row e. elim (row_at-more place state.rows new row e) [
-    | inl old ↦ are_there-before state.rows (new ∷ []) (names_of row.item) (order.names place row old)
-    | inr last ↦ subst (λ (r : Row). AreThere (state.rows ++ new ∷ []) (names_of r.item)) last.1 (are_there-before state.rows (new ∷ []) (names_of new.item) follows.names)
+  origins = λ place row e. elim (row_at-more place state.rows new row e) [
+    | inl old ↦ has_origin-before state.rows (new ∷ []) (origin_of row.item) (order.origins place row old)
+    | inr last ↦ subst (λ (r : Row). HasOrigin (state.rows ++ new ∷ []) (origin_of r.item)) last.1 (has_origin-before state.rows (new ∷ []) (origin_of new.item) follows.origins)
   ];
   events = λ place row event e is. elim (row_at-more place state.rows new row e) [
     | inl old ↦ ((order.events place row event old is).0, has_subject-before state.rows (new ∷ []) row event (order.events place row event old is).1)
@@ -249,9 +245,9 @@ found_among object found (x ∷ rows) row e = elim (found_among object (later_ve
     of_object x row o same = let e : x ≡ row = cc in ap (λ (r : Row). r.object) (sym e) ∙ o
 
 -- the present version of an object stands at its place, and is of the object
-pub latest_of_sound : (state : ViewState) (object : ℕ) (row : Row) → IsSound state
+pub latest_of_order : (state : ViewState) (object : ℕ) (row : Row) → IsInOrder state
     → latest_of object state.rows ≡ Some row → (row_at row.place state.rows ≡ Some row) × (row.object ≡ object)
-latest_of_sound state object row sound e = elim (found_among object None state.rows row e) [
+latest_of_order state object row order e = elim (found_among object None state.rows row e) [
   | inl none ↦ absurd (cc)
   | inr there ↦ at there.0 there.1 there.2
 ]
@@ -261,7 +257,12 @@ latest_of_sound state object row sound e = elim (found_among object None state.r
     at i found o =
         let before : i ≡ (i + 1) - 1 = omega arith in
         let place : row_at (i + 1) state.rows ≡ Some row = is_row_at (i + 1) state.rows row (λ z. omega arith) (subst (λ j. slice_get state.rows j ≡ Some row) before found) in
-        (subst (λ p. row_at p state.rows ≡ Some row) (sym (sound.order.placed (i + 1) row place)) place, o)
+        (subst (λ p. row_at p state.rows ≡ Some row) (sym (order.placed (i + 1) row place)) place, o)
+
+-- the same among sound rows
+pub latest_of_sound : (state : ViewState) (object : ℕ) (row : Row) → IsSound state
+    → latest_of object state.rows ≡ Some row → (row_at row.place state.rows ≡ Some row) × (row.object ≡ object)
+latest_of_sound state object row sound e = latest_of_order state object row sound.order e
 
 -- the present version of an object is one of the object that its number begins
 pub latest_has_begun : (state : ViewState) (object : ℕ) (row : Row) → IsSound state → latest_of object state.rows ≡ Some row
@@ -280,10 +281,11 @@ order_with_all state (row ∷ rows) order follow =
     (order_with_all (with_next state row) rows (order_with state row order follow.0) follow.1)
 
 -- a sound view stays sound with the rows of an entry: they may follow one after another, and with them the amounts of
--- the charges are sums
+-- the charges are sums, and payment intents that wait for their capture are held
 pub sound_with_all : (state : ViewState) (rows : List Row) → IsSound state → AllMayFollow state rows
-    → HaveSums (state.rows ++ rows) → IsSound (record state { rows = state.rows ++ rows })
-sound_with_all state rows sound follow charges = record {
+    → HaveSums (state.rows ++ rows) → AreHeld (state.rows ++ rows) → IsSound (record state { rows = state.rows ++ rows })
+sound_with_all state rows sound follow charges held = record {
   order = order_with_all state rows sound.order follow;
   charges = charges;
+  held = held;
 }

@@ -3,7 +3,7 @@ pub mod Batches
 pub mod Items
 pub mod Kinds
 pub mod Metadata
-pub mod References
+pub mod Origins
 pub mod Rows
 pub mod Sound
 pub mod Transactions
