@@ -1,3 +1,5 @@
-mod BalanceLemmas
+pub mod BalanceLemmas
+pub mod ChargeLemmas
+pub mod HeldLemmas
 mod MetadataLemmas
 pub mod SoundLemmas
