@@ -2,4 +2,5 @@ pub mod BalanceLemmas
 pub mod ChargeLemmas
 pub mod HeldLemmas
 mod MetadataLemmas
+pub mod NameLemmas
 pub mod SoundLemmas

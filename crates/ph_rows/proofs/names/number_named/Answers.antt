@@ -1,8 +1,8 @@
 use Rattle.std.proofs.Common.{sym, ap, ◌∙◌}
 use Rattle.ph_base.specs.declared.ids.Kind.TheVariants as kind
-use Rattle.ph_intents.specs.Finding.{number_named}
-use Rattle.ph_intents.proofs.IdLemmas.{intent_kind, names_number, names_none, names_another}
-use Rattle.ph_intents.proofs.finding.number_named.Goals as goal
+use Rattle.ph_rows.specs.Names.{number_named}
+use Rattle.ph_rows.proofs.NameLemmas.{intent_kind, names_number, names_none, names_another}
+use Rattle.ph_rows.proofs.names.number_named.Goals as goal
 
 pub returns-then-is_intent_kind : goal.returns-then-is_intent_kind
 returns-then-is_intent_kind c =

@@ -12,7 +12,7 @@ use Rattle.ph_base.specs.Numbers.{decimal, padded}
 use Rattle.ph_base.proofs.IdLemmas.{parts_of}
 use Rattle.ph_base.proofs.DecimalLemmas.{decimal_padded}
 use Rattle.ph_rows.specs.Kinds.{number_of}
-use Rattle.ph_intents.specs.Finding.{number_named, is_printed_as}
+use Rattle.ph_rows.specs.Names.{number_named, is_printed_as}
 
 -- the kind with the number of payment intents is that of payment intents
 pub intent_kind : (k : Kind) → true ≡ (number_of k == 0) → k ≡ Intent
