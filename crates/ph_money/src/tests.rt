@@ -1,4 +1,4 @@
-use super::{Amount, Currency, fee, part};
+use super::{Amount, Currency, SignedAmount, fee, part};
 
 /// The fees that payhost's worked examples name.
 #[test]
@@ -48,4 +48,14 @@ fn currencies_and_minimums(rt: HostRuntime) {
     }
     assert_eq!(rt; Currency::read(b"chf"), None);
     assert_eq!(rt; Currency::read(b"usd "), None);
+}
+
+/// What is given and what is taken, up to the greatest amount.
+#[test]
+fn amounts_given_and_taken(rt: HostRuntime) {
+    let most = Amount::new(Amount::MOST);
+    assert_eq!(rt; SignedAmount::given(most).units(), 99999999);
+    assert_eq!(rt; SignedAmount::taken(most).units(), -99999999);
+    assert_eq!(rt; SignedAmount::new(1500).units(), 1500);
+    assert!(rt; SignedAmount::taken(Amount::new(0)) == SignedAmount::given(Amount::new(0)));
 }

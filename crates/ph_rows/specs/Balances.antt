@@ -1,5 +1,5 @@
 -- Balances: sums over the transactions of an account.
-use Rattle.std.specs.Prelude.{ℕ, Bool, true, false, ◌==◌, nat_le, nat_lt, if◌then◌else◌, ℤ, pos, ◌+ℤ◌, List, [], ◌∷◌, Option, None}
+use Rattle.std.specs.Prelude.{ℕ, Bool, true, false, ◌==◌, nat_le, nat_lt, if◌then◌else◌, ℤ, pos, ◌+ℤ◌, List, [], ◌∷◌, Option, None, Some}
 use Rattle.std.specs.List.{filter, filter_map}
 use Rattle.ph_money.specs.declared.currencies.Currency.{Currency}
 use Rattle.ph_money.specs.declared.currencies.Currency.TheVariants.{Eur, Gbp, Jpy, Usd}
@@ -7,12 +7,22 @@ use Rattle.ph_rows.specs.declared.rows.Row.{Row}
 use Rattle.ph_rows.specs.declared.items.Item.{Item}
 use Rattle.ph_rows.specs.declared.items.Item.TheVariants as item
 use Rattle.ph_rows.specs.declared.movements.Movement.{Movement}
+use Rattle.ph_rows.specs.declared.transactions.Txn.{Txn}
+use Rattle.ph_rows.specs.Transactions.{net_amount}
+
+-- what a transaction moves
+abbrev pub movement_by : Txn → Movement
+movement_by txn = record { currency = txn.currency; net = net_amount txn; available_on = txn.available_on }
 
 -- what an item moves on its account's balance: a transaction its amount less its fee, any other item nothing
 abbrev pub movement_of : Item → Option Movement
 movement_of (item.Account account) = None
 movement_of (item.Intent intent) = None
 movement_of (item.Attempt attempt) = None
+movement_of (item.Charge charge) = None
+movement_of (item.Refund refund) = None
+movement_of (item.Dispute dispute) = None
+movement_of (item.Txn txn) = Some (movement_by txn)
 movement_of (item.Event event) = None
 
 -- the place of a currency in the list of currencies

@@ -1,5 +1,6 @@
 -- A batch: the object rows that an entry adds, and the events that it announces.
 use Rattle.std.specs.Prelude.{ℕ, ◌+◌, List, [], ◌∷◌, ◌++◌, Option, None, Some, length}
+use Rattle.std.specs.Option.{option_or}
 use Rattle.ph_rows.specs.declared.rows.Row.{Row}
 use Rattle.ph_rows.specs.declared.items.Item.{Item}
 use Rattle.ph_rows.specs.declared.items.Item.TheVariants as item
@@ -44,6 +45,10 @@ abbrev pub with_announced : BatchState → EventKind → ℕ → BatchState
 with_announced batch sort object = record batch {
   announced = batch.announced ++ record { sort = sort; object = object } ∷ [];
 }
+
+-- the last version of an object: in the batch of an entry where it stands there, and else in the rows before the entry
+abbrev pub version_with : List Row → BatchState → ℕ → Option Row
+version_with rows batch object = option_or (latest_of object batch.rows) (latest_of object rows)
 
 -- the account of a version, or 0, the number of none
 abbrev pub account_of : Option Row → ℕ

@@ -10,6 +10,10 @@ abbrev pub kind_of : Item → Kind
 kind_of (item.Account account) = kind.Account
 kind_of (item.Intent intent) = kind.Intent
 kind_of (item.Attempt attempt) = kind.Attempt
+kind_of (item.Charge charge) = kind.Charge
+kind_of (item.Refund refund) = kind.Refund
+kind_of (item.Dispute dispute) = kind.Dispute
+kind_of (item.Txn txn) = kind.Txn
 kind_of (item.Event event) = kind.Event
 
 -- the place of a kind in the list of kinds

@@ -28,6 +28,12 @@ texts_of (item.Intent intent) =
     with_text (method_text intent.payment_method)
     (with_text intent.description (with_text intent.transfer_group (metadata_texts intent.metadata)))
 texts_of (item.Attempt attempt) = []
+texts_of (item.Charge charge) =
+    with_text (method_text charge.payment_method)
+    (with_text charge.description (with_text charge.transfer_group (metadata_texts charge.metadata)))
+texts_of (item.Refund refund) = metadata_texts refund.metadata
+texts_of (item.Dispute dispute) = with_text dispute.evidence []
+texts_of (item.Txn txn) = []
 texts_of (item.Event event) = with_text event.key []
 
 -- the lengths of texts together

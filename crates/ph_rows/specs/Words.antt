@@ -1,4 +1,4 @@
--- The words that are printed for statuses, capture methods, reasons of a cancel and event types; what an event type speaks of.
+-- The words that are printed for statuses, capture methods, types and reasons; what an event type speaks of.
 use Rattle.std.specs.Prelude.{ℕ, List, codes}
 use Rattle.ph_base.specs.declared.ids.Kind.{Kind}
 use Rattle.ph_base.specs.declared.ids.Kind.TheVariants as kind
@@ -8,6 +8,14 @@ use Rattle.ph_rows.specs.declared.intents.CaptureMethod.{CaptureMethod}
 use Rattle.ph_rows.specs.declared.intents.CaptureMethod.TheVariants as capture_method
 use Rattle.ph_rows.specs.declared.intents.CancellationReason.{CancellationReason}
 use Rattle.ph_rows.specs.declared.intents.CancellationReason.TheVariants as reason
+use Rattle.ph_rows.specs.declared.charges.ChargeStatus.{ChargeStatus}
+use Rattle.ph_rows.specs.declared.charges.ChargeStatus.TheVariants as charge_status
+use Rattle.ph_rows.specs.declared.transactions.TxnType.{TxnType}
+use Rattle.ph_rows.specs.declared.transactions.TxnType.TheVariants as txn_type
+use Rattle.ph_rows.specs.declared.refunds.RefundReason.{RefundReason}
+use Rattle.ph_rows.specs.declared.refunds.RefundReason.TheVariants as refund_reason
+use Rattle.ph_rows.specs.declared.disputes.DisputeStatus.{DisputeStatus}
+use Rattle.ph_rows.specs.declared.disputes.DisputeStatus.TheVariants as dispute_status
 use Rattle.ph_rows.specs.declared.event_kinds.EventKind.{EventKind}
 use Rattle.ph_rows.specs.declared.event_kinds.EventKind.TheVariants as event
 
@@ -33,6 +41,30 @@ cancellation_reason_text reason.Duplicate = codes "duplicate"
 cancellation_reason_text reason.Fraudulent = codes "fraudulent"
 cancellation_reason_text reason.RequestedByCustomer = codes "requested_by_customer"
 cancellation_reason_text reason.Abandoned = codes "abandoned"
+
+-- the word of a charge's status
+abbrev pub charge_status_text : ChargeStatus → List ℕ
+charge_status_text charge_status.Succeeded = codes "succeeded"
+charge_status_text charge_status.Failed = codes "failed"
+
+-- the word of a transaction's type
+abbrev pub txn_type_text : TxnType → List ℕ
+txn_type_text txn_type.Charge = codes "charge"
+txn_type_text txn_type.Refund = codes "refund"
+txn_type_text txn_type.Adjustment = codes "adjustment"
+
+-- the word of a reason for a refund
+abbrev pub refund_reason_text : RefundReason → List ℕ
+refund_reason_text refund_reason.Duplicate = codes "duplicate"
+refund_reason_text refund_reason.Fraudulent = codes "fraudulent"
+refund_reason_text refund_reason.RequestedByCustomer = codes "requested_by_customer"
+
+-- the word of a dispute's status
+abbrev pub dispute_status_text : DisputeStatus → List ℕ
+dispute_status_text dispute_status.NeedsResponse = codes "needs_response"
+dispute_status_text dispute_status.UnderReview = codes "under_review"
+dispute_status_text dispute_status.Won = codes "won"
+dispute_status_text dispute_status.Lost = codes "lost"
 
 -- the text of an event type
 abbrev pub event_text : EventKind → List ℕ

@@ -2,13 +2,14 @@
 ghost use Rattle.std.specs.Prelude.{◌≡◌, ◌+◌, ◌<◌, ◌^◌, ◌++◌, length, IfOk, OnOk, OnErr};
 ghost use Rattle.std.specs.Option.{option_copied};
 ghost use Rattle.ph_rows.specs.Rows.{latest_of};
-ghost use Rattle.ph_rows.specs.Batches.{empty_batch, last_place, with_row, with_announced, account_of, event_row, event_rows, made_rows};
+ghost use Rattle.ph_rows.specs.Batches.{empty_batch, last_place, with_row, with_announced, account_of, event_row, event_rows, made_rows, version_with};
 
 use crate::event_kinds::EventKind;
 use crate::events::Event;
 use crate::items::Item;
 use crate::rows::Row;
 use crate::scans;
+use crate::views::View;
 use ph_base::{Bytes, NoMemory};
 use std::alloc::Global;
 use std::marker::Model;
@@ -68,6 +69,13 @@ impl Batch {
         ensures { result ≡ self.now.entry }
     {
         self.entry
+    }
+
+    /// The time of the entry, in seconds since 1970.
+    pub fn at(&self) -> u64
+        ensures { result ≡ self.now.at }
+    {
+        self.at
     }
 
     /// The place of its last row, or the count that it began with. What is announced isn't counted.
@@ -143,6 +151,17 @@ impl Batch {
         )?;
         rows.append(&mut events)?;
         Ok(rows)
+    }
+}
+
+/// The last version of an object: in the batch of an entry where it stands there, and else in the view of the rows
+/// before the entry. None exactly where neither has one.
+pub fn version_with<'a, V: View>(view: &'a V, batch: &'a Batch, object: u64) -> Option<&'a Row>
+    ensures { option_copied result ≡ version_with (V.state view.now).rows batch.now object }
+{
+    match batch.latest(object) {
+        Some(row) => Some(row),
+        None => view.latest(object),
     }
 }
 

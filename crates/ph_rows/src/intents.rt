@@ -1,7 +1,7 @@
 //! Payment intents.
 ghost use Rattle.std.specs.Prelude.{◌≡◌, IfOk};
-ghost use Rattle.std.specs.Option.{option_copied};
 
+use crate::copies::{copy_method, copy_text};
 use crate::metadata_pairs::Metadata;
 use crate::payment_methods::PaymentMethod;
 use ph_base::{Bytes, Decline, NoMemory};
@@ -113,6 +113,8 @@ pub struct Intent {
     pub payment_method: Option<PaymentMethod>,
     pub cancellation_reason: Option<CancellationReason>,
     pub last_payment_error: Option<PaymentError>,
+    /// The number of the charge of its last confirmation that the acquirer approved or declined.
+    pub latest_charge: Option<u64>,
     pub description: Option<Bytes>,
     pub metadata: Metadata,
     pub transfer_group: Option<Bytes>,
@@ -135,32 +137,10 @@ impl Intent {
             payment_method: copy_method(alloc, self.payment_method.as_ref())?,
             cancellation_reason: self.cancellation_reason,
             last_payment_error: self.last_payment_error,
+            latest_charge: self.latest_charge,
             description: copy_text(alloc, self.description.as_ref())?,
             metadata: self.metadata.copy(alloc)?,
             transfer_group: copy_text(alloc, self.transfer_group.as_ref())?,
         })
-    }
-}
-
-// The same payment method once more, where there is one.
-fn copy_method(
-    alloc: Global,
-    method: Option<&PaymentMethod>,
-) -> Result<Option<PaymentMethod>, NoMemory>
-    ensures { IfOk result (λ copy. copy ≡ option_copied method.entry) }
-{
-    match method {
-        Some(method) => Ok(Some(method.copy(alloc)?)),
-        None => Ok(None),
-    }
-}
-
-// The same text once more, where there is one.
-fn copy_text(alloc: Global, text: Option<&Bytes>) -> Result<Option<Bytes>, NoMemory>
-    ensures { IfOk result (λ copy. copy ≡ option_copied text.entry) }
-{
-    match text {
-        Some(text) => Ok(Some(text.copy(alloc)?)),
-        None => Ok(None),
     }
 }

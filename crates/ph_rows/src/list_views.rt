@@ -92,6 +92,19 @@ impl ListView {
         self.rows.push_reserved(row);
     }
 
+    /// Adds a row. Where memory is wanting, or there would be too many rows, the time and the rows stay as they are.
+    pub fn push(&mut self, row: Row) -> Result<(), NoMemory>
+        ensures time { self.new.time ≡ self.old.time }
+        ensures ok { OnOk result (self.new.rows ≡ self.old.rows ++ row ∷ []) }
+        ensures err { OnErr result (self.new.rows ≡ self.old.rows) }
+    {
+        if self.rows.len() == ListView::MOST {
+            return Err(NoMemory);
+        }
+        self.rows.push(row)?;
+        Ok(())
+    }
+
     /// The rows in their order.
     pub fn rows(&self) -> &[Row]
         ensures rows { result.now ≡ self.now.rows }

@@ -1,5 +1,5 @@
 //! What moves a balance.
-ghost use Rattle.std.specs.Prelude.{◌≡◌, Option, None};
+ghost use Rattle.std.specs.Prelude.{◌≡◌};
 
 use crate::items::Item;
 use ph_money::Currency;
@@ -18,12 +18,23 @@ impl Item {
     ghost use Rattle.std.specs.Prelude.{◌≡◌};
     ghost use Rattle.ph_rows.specs.Balances.{movement_of};
 
-    /// What the item moves on its account's balance: of the kinds that are built, none does.
+    /// What the item moves on its account's balance: a transaction its amount less its fee, any other item nothing.
     pub fn movement(&self) -> Option<Movement>
         ensures { result ≡ movement_of self.now }
     {
         match self {
-            Item::Account(_) | Item::Intent(_) | Item::Attempt(_) | Item::Event(_) => None,
+            Item::Txn(txn) => Some(Movement {
+                currency: txn.currency,
+                net: txn.net(),
+                available_on: txn.available_on,
+            }),
+            Item::Account(_)
+            | Item::Intent(_)
+            | Item::Attempt(_)
+            | Item::Charge(_)
+            | Item::Refund(_)
+            | Item::Dispute(_)
+            | Item::Event(_) => None,
         }
     }
 }

@@ -46,7 +46,15 @@ fn plus_item(sum: u64, item: &Item) -> Option<u64>
             let sum = plus_text(sum, intent.transfer_group.as_ref())?;
             plus_pairs(sum, intent.metadata.pairs())
         }
-        Item::Attempt(_) => Some(sum),
+        Item::Charge(charge) => {
+            let sum = plus_method(sum, charge.payment_method.as_ref())?;
+            let sum = plus_text(sum, charge.description.as_ref())?;
+            let sum = plus_text(sum, charge.transfer_group.as_ref())?;
+            plus_pairs(sum, charge.metadata.pairs())
+        }
+        Item::Refund(refund) => plus_pairs(sum, refund.metadata.pairs()),
+        Item::Dispute(dispute) => plus_text(sum, dispute.evidence.as_ref()),
+        Item::Attempt(_) | Item::Txn(_) => Some(sum),
         Item::Event(event) => plus_text(sum, event.key.as_ref()),
     }
 }

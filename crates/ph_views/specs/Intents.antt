@@ -70,7 +70,7 @@ progress_members intent =
     (codes "cancellation_reason", text_or_null (option_map cancellation_reason_text intent.cancellation_reason))
     ∷ (codes "capture_method", Text (capture_method_text intent.capture_method))
     ∷ (codes "last_payment_error", last_error_doc intent.last_payment_error)
-    ∷ (codes "latest_charge", id_or_null kind.Charge None)
+    ∷ (codes "latest_charge", id_or_null kind.Charge intent.latest_charge)
     ∷ (codes "next_action", next_action_doc intent.status)
     ∷ (codes "payment_method", text_or_null (method_text intent.payment_method))
     ∷ (codes "status", Text (status_text intent.status))

@@ -1,5 +1,11 @@
 pub mod Accounts
+pub mod Balances
+pub mod Charges
+pub mod Clocks
+pub mod Disputes
 pub mod Events
 pub mod Intents
 pub mod Objects
+pub mod Refunds
+pub mod Transactions
 pub mod Values

@@ -1,7 +1,6 @@
 //! Payment intents.
 ghost use Rattle.std.specs.Prelude.{◌≡◌, IfOk, option_map};
 ghost use Rattle.ph_rows.specs.Words.{cancellation_reason_text};
-ghost use Rattle.ph_rows.specs.Weights.{method_text};
 ghost use Rattle.ph_json.specs.Values.{text_or_null};
 ghost use Rattle.ph_views.specs.Intents.{intent_doc, amount_members, name_members, progress_members, last_error_doc, next_action_doc, authenticate_doc, client_secret_of};
 
@@ -9,7 +8,7 @@ use crate::values;
 use ph_base::{Bytes, Kind, NoMemory};
 use ph_errors::{ApiError, error_doc};
 use ph_json::{Doc, Members};
-use ph_rows::{CancellationReason, Intent, IntentStatus, PaymentError, PaymentMethod};
+use ph_rows::{CancellationReason, Intent, IntentStatus, PaymentError};
 use std::alloc::Global;
 
 /// The document of a version of a payment intent that was created at a moment and has a number.
@@ -60,7 +59,7 @@ fn names(alloc: Global, created: u64, object: u64, intent: &Intent) -> Result<Me
     Ok(members)
 }
 
-// How it is paid, and how far it has come. No charges are made yet.
+// How it is paid, and how far it has come.
 #[tactic(auto, unfolding(crate::specs::Intents::progress_members))]
 fn progress(alloc: Global, intent: &Intent) -> Result<Members, NoMemory>
     ensures { IfOk result (λ members. members ≡ progress_members intent.now) }
@@ -77,10 +76,13 @@ fn progress(alloc: Global, intent: &Intent) -> Result<Members, NoMemory>
     )?;
     members.put(
         "latest_charge",
-        values::id_or_null(alloc, Kind::Charge, None)?,
+        values::id_or_null(alloc, Kind::Charge, intent.latest_charge)?,
     )?;
     members.put("next_action", next_action(alloc, intent.status)?)?;
-    members.put("payment_method", method(alloc, &intent.payment_method)?)?;
+    members.put(
+        "payment_method",
+        values::method(alloc, &intent.payment_method)?,
+    )?;
     members.text("status", intent.status.text())?;
     Ok(members)
 }
@@ -102,16 +104,6 @@ fn reason(alloc: Global, reason: Option<CancellationReason>) -> Result<Doc, NoMe
     match reason {
         None => Ok(Doc::Null),
         Some(reason) => Doc::text_of(alloc, reason.text()),
-    }
-}
-
-// The payment method's name, or null.
-fn method(alloc: Global, method: &Option<PaymentMethod>) -> Result<Doc, NoMemory>
-    ensures { IfOk result (λ doc. doc ≡ text_or_null (method_text method.now)) }
-{
-    match method {
-        None => Ok(Doc::Null),
-        Some(method) => Doc::text_of(alloc, method.text.as_slice()),
     }
 }
 

@@ -3,26 +3,34 @@ ghost use Rattle.std.specs.Prelude.{◌≡◌, IfOk};
 ghost use Rattle.ph_views.specs.Objects.{object_doc, object_text, version_before, subject_doc, version_doc};
 
 use crate::accounts::account_doc;
+use crate::charges::charge_doc;
+use crate::disputes::dispute_doc;
 use crate::events::event_doc;
 use crate::intents::intent_doc;
+use crate::refunds::refund_doc;
 use crate::subjects::{created, version_before};
+use crate::transactions::txn_doc;
 use ph_base::{Bytes, NoMemory};
 use ph_json::{Doc, text};
 use ph_rows::{Item, Row, View};
 use std::alloc::Global;
 
 /// The document of a version of an object, as the API prints it: the version as the row has it, with the moment
-/// at which the object was created and, in an event, with the version of its object that the event's own entry
-/// left. The row is one of the view's, or one that its entry is adding to them. An attempt has no document: its
-/// row gives null, and no call prints it.
+/// at which the object was created; a transaction as it stands at the view's time; an event with the version of its
+/// object that the event's own entry left. The row is one of the view's, or one that its entry is adding to them. An
+/// attempt has no document: its row gives null, and no call prints it.
 #[tactic(auto, unfolding(crate::specs::Objects::object_doc))]
 pub fn item_doc<V: View>(alloc: Global, view: &V, row: &Row) -> Result<Doc, NoMemory>
-    ensures { IfOk result (λ doc. doc ≡ object_doc (V.state view.now).rows row.now) }
+    ensures { IfOk result (λ doc. doc ≡ object_doc (V.state view.now).time (V.state view.now).rows row.now) }
 {
     match &row.item {
-        Item::Account(_) | Item::Intent(_) | Item::Attempt(_) => {
-            version(alloc, created(view, row), row.object, &row.item)
-        }
+        Item::Account(_)
+        | Item::Intent(_)
+        | Item::Attempt(_)
+        | Item::Charge(_)
+        | Item::Refund(_)
+        | Item::Dispute(_) => version(alloc, created(view, row), row.object, &row.item),
+        Item::Txn(txn) => txn_doc(alloc, view.time(), created(view, row), row.object, txn),
         Item::Event(event) => {
             let subject = subject(alloc, view, row.place, event.object)?;
             event_doc(
@@ -40,7 +48,7 @@ pub fn item_doc<V: View>(alloc: Global, view: &V, row: &Row) -> Result<Doc, NoMe
 /// The JSON text of the document of a version of an object: what a reply that shows the object has as its body.
 #[tactic(auto, unfolding(crate::specs::Objects::object_text))]
 pub fn item_text<V: View>(alloc: Global, view: &V, row: &Row) -> Result<Bytes, NoMemory>
-    ensures { IfOk result (λ text. text ≡ object_text (V.state view.now).rows row.now) }
+    ensures { IfOk result (λ text. text ≡ object_text (V.state view.now).time (V.state view.now).rows row.now) }
 {
     text(alloc, &item_doc(alloc, view, row)?)
 }
@@ -56,13 +64,16 @@ fn subject<V: View>(alloc: Global, view: &V, place: u64, object: u64) -> Result<
     }
 }
 
-// The document of a version that isn't an event's.
+// The document of a version of an object of which events tell.
 fn version(alloc: Global, created: u64, object: u64, item: &Item) -> Result<Doc, NoMemory>
     ensures { IfOk result (λ doc. doc ≡ version_doc created object item.now) }
 {
     match item {
         Item::Account(account) => account_doc(alloc, created, object, account),
         Item::Intent(intent) => intent_doc(alloc, created, object, intent),
-        Item::Attempt(_) | Item::Event(_) => Ok(Doc::Null),
+        Item::Charge(charge) => charge_doc(alloc, created, object, charge),
+        Item::Refund(refund) => refund_doc(alloc, created, object, refund),
+        Item::Dispute(dispute) => dispute_doc(alloc, created, object, dispute),
+        Item::Attempt(_) | Item::Txn(_) | Item::Event(_) => Ok(Doc::Null),
     }
 }

@@ -2,12 +2,22 @@
 #![tactic(auto)]
 
 mod accounts;
+mod balances;
+mod charges;
+mod clocks;
+mod disputes;
 mod events;
 mod intents;
 mod item_docs;
+#[cfg(test)]
+mod money_tests;
+mod refunds;
 mod subjects;
 #[cfg(test)]
 mod tests;
+mod transactions;
 mod values;
 
+pub use balances::balance_doc;
+pub use clocks::clock_doc;
 pub use item_docs::{item_doc, item_text};

@@ -45,7 +45,7 @@ const EVENT_CANCELED: &str =
 const EVENT_CONNECTED: &str =
     "{\"account\":\"acct_0000000000000006\",\"created\":1700000300,\"data\":{\"object\":{\"amount\":2000,\"amount_capturable\":0,\"amount_received\":0,\"application_fee_amount\":null,\"cancellation_reason\":null,\"capture_method\":\"automatic\",\"client_secret\":\"pi_0000000000000007_secret_payhost\",\"created\":1700000300,\"currency\":\"usd\",\"description\":null,\"id\":\"pi_0000000000000007\",\"last_payment_error\":null,\"latest_charge\":null,\"livemode\":false,\"metadata\":{},\"next_action\":null,\"object\":\"payment_intent\",\"payment_method\":null,\"status\":\"requires_payment_method\",\"transfer_data\":null,\"transfer_group\":null}},\"id\":\"evt_0000000000000008\",\"livemode\":false,\"object\":\"event\",\"pending_webhooks\":0,\"request\":{\"id\":null,\"idempotency_key\":null},\"type\":\"payment_intent.created\"}";
 
-fn row(place: u64, object: u64, at: u64, account: u64, item: Item) -> Row {
+pub fn row(place: u64, object: u64, at: u64, account: u64, item: Item) -> Row {
     Row {
         place,
         object,
@@ -55,7 +55,7 @@ fn row(place: u64, object: u64, at: u64, account: u64, item: Item) -> Row {
     }
 }
 
-fn account(alloc: Global) -> Account {
+pub fn account(alloc: Global) -> Account {
     Account {
         sort: AccountType::Standard,
         email: None,
@@ -74,6 +74,7 @@ fn intent(alloc: Global) -> Intent {
         payment_method: None,
         cancellation_reason: None,
         last_payment_error: None,
+        latest_charge: None,
         description: None,
         metadata: Metadata::new(alloc),
         transfer_group: None,
@@ -87,15 +88,15 @@ fn canceled(alloc: Global) -> Intent {
     intent
 }
 
-fn event(sort: EventKind, object: u64, key: Option<Bytes>) -> Item {
+pub fn event(sort: EventKind, object: u64, key: Option<Bytes>) -> Item {
     Item::Event(Event { sort, object, key })
 }
 
-fn bytes(alloc: Global, text: &str) -> Result<Bytes, NoMemory> {
+pub fn bytes(alloc: Global, text: &str) -> Result<Bytes, NoMemory> {
     Bytes::from_slice(alloc, text.as_bytes())
 }
 
-fn metadata(alloc: Global, pairs: &[(&'static str, &'static str)]) -> Result<Metadata, NoMemory> {
+pub fn metadata(alloc: Global, pairs: &[(&'static str, &'static str)]) -> Result<Metadata, NoMemory> {
     let mut metadata = Metadata::new(alloc);
     for (key, value) in pairs {
         metadata.set(bytes(alloc, key)?, bytes(alloc, value)?)?;
@@ -111,7 +112,7 @@ fn platform(alloc: Global) -> Result<ListView, NoMemory> {
     )
 }
 
-fn view_of(alloc: Global, rows: Vec<Row>) -> Result<ListView, NoMemory> {
+pub fn view_of(alloc: Global, rows: Vec<Row>) -> Result<ListView, NoMemory> {
     let mut view = ListView::new(alloc, OPENED + 300);
     view.reserve(rows.len())?;
     view.append_reserved(rows);
@@ -146,7 +147,7 @@ fn history(alloc: Global) -> Result<ListView, NoMemory> {
 }
 
 // The row of a place of the view has this text.
-fn prints<V: View>(
+pub fn prints<V: View>(
     rt: &impl Abort,
     alloc: Global,
     view: &V,
@@ -159,18 +160,28 @@ fn prints<V: View>(
     Ok(())
 }
 
-// The intent, over the rows in front of its own, has this text.
-fn prints_new(rt: &impl Abort, alloc: Global, intent: Intent, expected: &str) -> Result<(), Fail> {
-    let new = row(2, 2, OPENED, 1, Item::Intent(intent));
+// A row that is new to the view of the platform's account alone has this text.
+pub fn prints_new(rt: &impl Abort, alloc: Global, new: Row, expected: &str) -> Result<(), Fail> {
     let written = item_text(alloc, &platform(alloc)?, &new)?;
     assert_eq!(rt; written.as_slice(), expected.as_bytes());
     Ok(())
 }
 
+// The intent, over the rows in front of its own, has this text.
+fn prints_intent(
+    rt: &impl Abort,
+    alloc: Global,
+    intent: Intent,
+    expected: &str,
+) -> Result<(), Fail> {
+    let new = row(2, 2, OPENED, 1, Item::Intent(intent));
+    prints_new(rt, alloc, new, expected)
+}
+
 #[test]
 fn a_payment_intent_just_created(rt: HostRuntime) -> Result<(), Fail> {
     let alloc = rt.alloc();
-    prints_new(&rt, alloc, intent(alloc), CREATED)?;
+    prints_intent(&rt, alloc, intent(alloc), CREATED)?;
     prints(&rt, alloc, &history(alloc)?, 2, CREATED)?;
     assert_eq!(rt; CREATED.len(), 503);
     Ok(())
@@ -193,6 +204,7 @@ fn a_payment_intent_with_everything(rt: HostRuntime) -> Result<(), Fail> {
         payment_method: Some(no_funds),
         cancellation_reason: Some(CancellationReason::RequestedByCustomer),
         last_payment_error: Some(PaymentError::Declined(Decline::NoFunds)),
+        latest_charge: None,
         description: Some(bytes(alloc, "Order \"7\"\\\n\té€😀\u{1}")?),
         metadata: metadata(
             alloc,
@@ -200,7 +212,7 @@ fn a_payment_intent_with_everything(rt: HostRuntime) -> Result<(), Fail> {
         )?,
         transfer_group: Some(bytes(alloc, "g/1")?),
     };
-    prints_new(&rt, alloc, full, FULL)
+    prints_intent(&rt, alloc, full, FULL)
 }
 
 #[test]
@@ -212,10 +224,10 @@ fn a_payment_intent_that_waits_for_its_customer(rt: HostRuntime) -> Result<(), F
         text: bytes(alloc, "pm_card_authenticationRequired")?,
         method: Method::Challenge,
     });
-    prints_new(&rt, alloc, challenged, CHALLENGED)?;
+    prints_intent(&rt, alloc, challenged, CHALLENGED)?;
     let mut failed = intent(alloc);
     failed.last_payment_error = Some(PaymentError::NotAuthenticated);
-    prints_new(&rt, alloc, failed, NOT_AUTHENTICATED)
+    prints_intent(&rt, alloc, failed, NOT_AUTHENTICATED)
 }
 
 #[test]

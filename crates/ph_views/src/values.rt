@@ -1,10 +1,12 @@
 //! The values that the documents of objects share.
 ghost use Rattle.std.specs.Prelude.{◌≡◌, pos, min, ◌-◌, ◌^◌, IfOk};
+ghost use Rattle.ph_rows.specs.Weights.{method_text};
+ghost use Rattle.ph_json.specs.Values.{text_or_null};
 ghost use Rattle.ph_views.specs.Values.{moment_doc, printed_id, id_or_null, metadata_doc};
 
 use ph_base::{Id, IdText, Kind, NoMemory, print_id};
 use ph_json::{Doc, Members};
-use ph_rows::Metadata;
+use ph_rows::{Metadata, PaymentMethod};
 use std::alloc::Global;
 
 const NUMBERS: u64 = 10_000_000_000_000_000;
@@ -42,6 +44,16 @@ pub fn id_or_null(alloc: Global, kind: Kind, number: Option<u64>) -> Result<Doc,
     match number {
         None => Ok(Doc::Null),
         Some(number) => id(alloc, kind, number),
+    }
+}
+
+/// The name of a payment method, or null where there is none.
+pub fn method(alloc: Global, method: &Option<PaymentMethod>) -> Result<Doc, NoMemory>
+    ensures { IfOk result (λ doc. doc ≡ text_or_null (method_text method.now)) }
+{
+    match method {
+        None => Ok(Doc::Null),
+        Some(method) => Doc::text_of(alloc, method.text.as_slice()),
     }
 }
 

@@ -1,0 +1,4 @@
+pub mod Approvals
+pub mod Captures
+pub mod Charges
+pub mod Splits

@@ -1,0 +1,104 @@
+ghost use Rattle.std.specs.Prelude.{◌<◌};
+
+use super::Ledger;
+use ph_money::{Amount, Currency, SignedAmount};
+use ph_rows::{Item, Row, Txn, TxnSource, TxnType};
+use std::test::Fail;
+
+const OPENED: u64 = 1700000000;
+
+fn txn(
+    sort: TxnType,
+    amount: SignedAmount,
+    fee: u64,
+    available_on: u64,
+    source: TxnSource,
+) -> Item
+    requires { fee < 1000000 }
+{
+    Item::Txn(Txn {
+        sort,
+        amount,
+        fee: SignedAmount::new(fee),
+        currency: Currency::Usd,
+        available_on,
+        source,
+    })
+}
+
+// A charge of 2000 usd, captured at the opening: 1912 after two days.
+fn captured() -> Item {
+    let amount = SignedAmount::given(Amount::new(2000));
+    let source = TxnSource::Charge(6);
+    txn(TxnType::Charge, amount, 88, OPENED + 172800, source)
+}
+
+fn row(account: u64, item: Item) -> Row {
+    Row {
+        place: 7,
+        object: 7,
+        at: OPENED,
+        account,
+        item,
+    }
+}
+
+// The available and the pending balance of account 1 in usd.
+fn balances(ledger: &Ledger) -> (i64, i64) {
+    (
+        ledger.available(1, Currency::Usd),
+        ledger.pending(1, Currency::Usd),
+    )
+}
+
+// What was captured is pending until its moment, and available from then on.
+#[test]
+fn a_capture_becomes_available(rt: HostRuntime) -> Result<(), Fail> {
+    let mut ledger = Ledger::new(rt.alloc());
+    assert_eq!(rt; balances(&ledger), (0, 0));
+    ledger.advance(OPENED);
+    ledger.post(&row(1, captured()))?;
+    assert_eq!(rt; balances(&ledger), (0, 1912));
+    ledger.advance(OPENED + 172799);
+    assert_eq!(rt; balances(&ledger), (0, 1912));
+    ledger.advance(OPENED + 172800);
+    assert_eq!(rt; balances(&ledger), (1912, 0));
+    assert_eq!(rt; balances(&ledger), (1912, 0));
+    assert_eq!(rt; ledger.available(2, Currency::Usd), 0);
+    assert_eq!(rt; ledger.available(1, Currency::Eur), 0);
+    Ok(())
+}
+
+// Refunds of 500 and of the rest leave the fee; they are available with the charge.
+#[test]
+fn a_charge_that_is_refunded(rt: HostRuntime) -> Result<(), Fail> {
+    let mut ledger = Ledger::new(rt.alloc());
+    ledger.advance(OPENED);
+    ledger.post(&row(1, captured()))?;
+    for units in [500, 1500] {
+        let amount = SignedAmount::taken(Amount::new(units));
+        let source = TxnSource::Refund(11);
+        let refund = txn(TxnType::Refund, amount, 0, OPENED + 172800, source);
+        ledger.post(&row(1, refund))?;
+    }
+    assert_eq!(rt; balances(&ledger), (0, -88));
+    Ok(())
+}
+
+// A dispute takes 2000 and a fee of 1500 at once; where it is won the 2000 come back, and the fee doesn't.
+#[test]
+fn a_dispute_that_is_won(rt: HostRuntime) -> Result<(), Fail> {
+    let mut ledger = Ledger::new(rt.alloc());
+    ledger.advance(OPENED);
+    ledger.post(&row(1, captured()))?;
+    let taken = SignedAmount::taken(Amount::new(2000));
+    let source = TxnSource::Dispute(9);
+    let opened = txn(TxnType::Adjustment, taken, 1500, OPENED, source);
+    ledger.post(&row(1, opened))?;
+    assert_eq!(rt; balances(&ledger), (-3500, 1912));
+    let given = SignedAmount::given(Amount::new(2000));
+    let won = txn(TxnType::Adjustment, given, 0, OPENED, source);
+    ledger.post(&row(1, won))?;
+    assert_eq!(rt; balances(&ledger), (-1500, 1912));
+    Ok(())
+}

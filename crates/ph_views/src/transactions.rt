@@ -1,0 +1,79 @@
+//! Balance transactions.
+ghost use Rattle.std.specs.Prelude.{◌≡◌, IfOk};
+ghost use Rattle.ph_json.specs.declared.doc.Doc.TheVariants as doc;
+ghost use Rattle.ph_views.specs.Transactions.{txn_doc, txn_amount_members, txn_name_members, txn_status, source_id};
+
+use crate::values;
+use ph_base::{Kind, NoMemory};
+use ph_json::{Doc, Members};
+use ph_rows::{Txn, TxnSource};
+use std::alloc::Global;
+
+/// The document, at a time, of a transaction that was created at a moment and has a number.
+#[tactic(auto, unfolding(crate::specs::Transactions::txn_doc))]
+pub fn txn_doc(
+    alloc: Global,
+    time: u64,
+    created: u64,
+    object: u64,
+    txn: &Txn,
+) -> Result<Doc, NoMemory>
+    ensures { IfOk result (λ doc. doc ≡ txn_doc time created object txn.now) }
+{
+    let mut members = amounts(alloc, txn)?;
+    members.append(names(alloc, time, created, object, txn)?)?;
+    Ok(members.done())
+}
+
+// How much, and for what.
+#[tactic(auto, unfolding(crate::specs::Transactions::txn_amount_members))]
+fn amounts(alloc: Global, txn: &Txn) -> Result<Members, NoMemory>
+    ensures { IfOk result (λ members. members ≡ txn_amount_members txn.now) }
+{
+    let mut members = Members::new(alloc);
+    members.number("amount", txn.amount.units() as i64)?;
+    members.text("currency", txn.currency.code())?;
+    members.number("fee", txn.fee.units() as i64)?;
+    members.number("net", txn.net() as i64)?;
+    members.put("source", source(alloc, txn.source)?)?;
+    members.text("type", txn.sort.text())?;
+    Ok(members)
+}
+
+// Which one, made when, and how it stands at a time.
+#[tactic(auto, unfolding(crate::specs::Transactions::txn_name_members))]
+fn names(
+    alloc: Global,
+    time: u64,
+    created: u64,
+    object: u64,
+    txn: &Txn,
+) -> Result<Members, NoMemory>
+    ensures { IfOk result (λ members. members ≡ txn_name_members time created object txn.now) }
+{
+    let mut members = Members::new(alloc);
+    members.put("available_on", values::moment(txn.available_on))?;
+    members.put("created", values::moment(created))?;
+    members.put("id", values::id(alloc, Kind::Txn, object)?)?;
+    members.word("object", "balance_transaction")?;
+    members.text("status", status(time, txn))?;
+    Ok(members)
+}
+
+// Whether a transaction counts in the available balance at a time.
+fn status(time: u64, txn: &Txn) -> &'static [u8]
+    ensures { result.now ≡ txn_status time txn.now }
+{
+    if txn.available_on <= time {
+        b"available"
+    } else {
+        b"pending"
+    }
+}
+
+// The printed id of what a transaction comes from.
+fn source(alloc: Global, source: TxnSource) -> Result<Doc, NoMemory>
+    ensures { IfOk result (λ doc. doc ≡ Doc.Text (source_id source)) }
+{
+    values::id(alloc, source.kind(), source.number())
+}
