@@ -2,7 +2,7 @@
 
 use super::shown::{number, raw};
 use crate::read_call;
-use ph_base::NoMemory;
+use ph_base::{NoMemory, read_number};
 use ph_errors::Refusal;
 use ph_http::Raw;
 use std::alloc::Global;
@@ -55,92 +55,64 @@ fn is_taken(rt: &impl Abort, alloc: Global, request: Result<Raw, NoMemory>, refu
     }
 }
 
-/// The path, what stands before and behind the characters, the most of them, and whose they are.
-static LIMITS: [(&str, &str, &str, u64, &str); 11] = [
-    (
-        "/v1/payment_intents",
-        "amount=2000&currency=usd&description=",
-        "",
-        1000,
-        "description",
-    ),
-    (
-        "/v1/payment_intents",
-        "amount=2000&currency=usd&transfer_group=",
-        "",
-        255,
-        "transfer_group",
-    ),
-    (
-        "/v1/payment_intents",
-        "amount=2000&currency=usd&metadata[a]=",
-        "",
-        500,
-        "metadata",
-    ),
-    (
-        "/v1/payment_intents",
-        "amount=2000&currency=usd&metadata[",
-        "]=x",
-        40,
-        "metadata",
-    ),
-    (
-        "/v1/payment_intents/x",
-        "amount=2000&currency=usd&description=",
-        "",
-        1000,
-        "description",
-    ),
-    (
-        "/v1/payment_intents/x",
-        "amount=2000&currency=usd&transfer_group=",
-        "",
-        255,
-        "transfer_group",
-    ),
-    (
-        "/v1/payment_intents/x",
-        "amount=2000&currency=usd&metadata[a]=",
-        "",
-        500,
-        "metadata",
-    ),
-    (
-        "/v1/payment_intents/x",
-        "amount=2000&currency=usd&metadata[",
-        "]=x",
-        40,
-        "metadata",
-    ),
-    ("/v1/refunds", "charge=x&metadata[a]=", "", 500, "metadata"),
-    ("/v1/refunds", "charge=x&metadata[", "]=x", 40, "metadata"),
-    (
-        "/v1/disputes/x",
-        "evidence[uncategorized_text]=",
-        "",
-        20000,
-        "evidence[uncategorized_text]",
-    ),
-];
+/// The limit holds: as many characters are taken, and one more is refused for this parameter. The body says by `*` where
+/// they stand.
+fn limit_holds(
+    rt: &impl Abort,
+    alloc: Global,
+    path: &str,
+    body: &str,
+    character: &str,
+    most: u64,
+    param: &str,
+) {
+    match body.split_once('*') {
+        Some((before, after)) => {
+            let one = long(alloc, path, before, character, 1, after);
+            is_taken(rt, alloc, one, None);
+            let longest = long(alloc, path, before, character, most, after);
+            is_taken(rt, alloc, longest, None);
+            let longer = long(alloc, path, before, character, most + 1, after);
+            is_taken(rt, alloc, longer, Some(param));
+        }
+        None => assert!(rt; false),
+    }
+}
 
-/// Each limit, with characters of one length.
-fn limits_hold(rt: &impl Abort, alloc: Global, character: &str) {
-    for (path, before, after, most, param) in LIMITS {
-        let one = long(alloc, path, before, character, 1, after);
-        is_taken(rt, alloc, one, None);
-        let longest = long(alloc, path, before, character, most, after);
-        is_taken(rt, alloc, longest, None);
-        let longer = long(alloc, path, before, character, most + 1, after);
-        is_taken(rt, alloc, longer, Some(param));
+/// Each line is a path, a body, the most characters that it takes, and whose they are.
+fn limits_hold(rt: &impl Abort, alloc: Global, character: &str, table: &str) {
+    for line in table.lines() {
+        let mut words = line.split_whitespace();
+        match (words.next(), words.next(), words.next(), words.next()) {
+            (Some(path), Some(body), Some(most), Some(param)) => {
+                match read_number(most.as_bytes()) {
+                    Some(most) => limit_holds(rt, alloc, path, body, character, most, param),
+                    None => assert!(rt; false),
+                }
+            }
+            _ => assert!(rt; line.trim().is_empty(), "{line}"),
+        }
     }
 }
 
 #[test]
 fn lengths_are_counted_in_characters(rt: HostRuntime) -> Result<(), Fail> {
+    let table = "
+        /v1/payment_intents      amount=2000&currency=usd&description=*       1000     description
+        /v1/payment_intents      amount=2000&currency=usd&transfer_group=*    255      transfer_group
+        /v1/payment_intents      amount=2000&currency=usd&metadata[a]=*       500      metadata
+        /v1/payment_intents      amount=2000&currency=usd&metadata[*]=x       40       metadata
+        /v1/payment_intents/x    description=*                                1000     description
+        /v1/payment_intents/x    transfer_group=*                             255      transfer_group
+        /v1/payment_intents/x    metadata[a]=*                                500      metadata
+        /v1/payment_intents/x    metadata[*]=x                                40       metadata
+        /v1/refunds              charge=x&metadata[a]=*                       500      metadata
+        /v1/refunds              charge=x&metadata[*]=x                       40       metadata
+        /v1/disputes/x           evidence[uncategorized_text]=*               20000    evidence[uncategorized_text]
+    ";
     // one, two and four bytes a character
     for character in ["a", "%C3%BC", "%F0%9F%92%B3"] {
-        limits_hold(&rt, rt.alloc(), character);
+        limits_hold(&rt, rt.alloc(), character, table);
     }
     Ok(())
 }
@@ -150,7 +122,7 @@ fn keys_of_metadata(rt: HostRuntime) -> Result<(), Fail> {
     let alloc = rt.alloc();
     for (path, front) in [
         ("/v1/payment_intents", "amount=2000&currency=usd"),
-        ("/v1/payment_intents/x", "amount=2000"),
+        ("/v1/payment_intents/x", "amount=1"),
         ("/v1/refunds", "charge=x"),
     ] {
         is_taken(&rt, alloc, many_keys(alloc, path, front, 50), None);
