@@ -23,7 +23,7 @@ pub fn set_clock(form: &Form) -> SetClock
 
 /// The error of a time that no clock shows.
 pub fn set_clock_error(alloc: Global, call: &SetClock) -> Result<Option<ApiError>, NoMemory>
-    ensures { IfOk result (λ error. error ≡ set_clock_error call.entry) }
+    ensures { IfOk result (λ error. error ≡ set_clock_error call.entry.now) }
 {
     if call.now > CLOCK_LIMIT {
         Ok(Some(ApiError::parameter_invalid_integer(alloc, b"now")?))
