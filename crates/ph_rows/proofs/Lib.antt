@@ -1,4 +1,5 @@
 pub mod BalanceLemmas
+pub mod BatchLemmas
 pub mod ChargeLemmas
 pub mod HeldLemmas
 mod MetadataLemmas
