@@ -13,8 +13,9 @@ mod table;
 mod tests;
 
 pub use call::{
-    Authenticate, Call, CancelIntent, CaptureIntent, ConfirmIntent, CreateIntent, GetIntent,
-    UpdateIntent,
+    Authenticate, Call, CancelIntent, CaptureIntent, CloseDispute, ConfirmIntent, CreateIntent,
+    CreateRefund, GetBalance, GetCharge, GetDispute, GetIntent, GetRefund, GetTxn, SendEvidence,
+    SetClock, UpdateIntent,
 };
 pub use ph_kinds::Authentication;
 pub use reading::read_call;
