@@ -12,7 +12,7 @@ use Rattle.ph_rows.specs.Origins.{Origin, HasOrigin, IsOrigin, is_made_once, ori
 use Rattle.ph_rows.specs.Rows.{row_at, later_version, latest_of}
 use Rattle.ph_rows.specs.Views.{ViewState}
 use Rattle.ph_rows.specs.Weights.{texts_of}
-use Rattle.ph_rows.specs.Sound.{clock_limit, AreHeld, HasBegun, HasSubject, HaveSums, IsInOrder, IsSound, with_next, MayFollow, AllMayFollow}
+use Rattle.ph_rows.specs.Sound.{clock_limit, AreHeld, HasBegun, HasSubject, HaveMoves, HaveSums, IsInOrder, IsSound, with_next, MayFollow, AllMayFollow}
 
 -- which of two was chosen
 pub picked : {A : Type 0} (b : Bool) (x y z : A) → cond b x y ≡ z → ((b ≡ true) × (x ≡ z)) ⊎ ((b ≡ false) × (y ≡ z))
@@ -150,6 +150,7 @@ sound_empty time clock = record {
   order = order_empty time clock;
   charges = λ object row charge e is. absurd (cc);
   held = λ object row intent e is waits. absurd (cc);
+  disputes = λ object row dispute e is. absurd (cc);
 }
 
 -- rows in order stay so at a later time
@@ -174,6 +175,7 @@ sound_later state now sound later clock = record {
   order = order_later state now sound.order later clock;
   charges = sound.charges;
   held = sound.held;
+  disputes = sound.disputes;
 }
 
 -- rows in order stay so with a row that may follow
@@ -281,11 +283,13 @@ order_with_all state (row ∷ rows) order follow =
     (order_with_all (with_next state row) rows (order_with state row order follow.0) follow.1)
 
 -- a sound view stays sound with the rows of an entry: they may follow one after another, and with them the amounts of
--- the charges are sums, and payment intents that wait for their capture are held
+-- the charges are sums, payment intents that wait for their capture are held, and the disputes have moved what they should
 pub sound_with_all : (state : ViewState) (rows : List Row) → IsSound state → AllMayFollow state rows
-    → HaveSums (state.rows ++ rows) → AreHeld (state.rows ++ rows) → IsSound (record state { rows = state.rows ++ rows })
-sound_with_all state rows sound follow charges held = record {
+    → HaveSums (state.rows ++ rows) → AreHeld (state.rows ++ rows) → HaveMoves (state.rows ++ rows)
+    → IsSound (record state { rows = state.rows ++ rows })
+sound_with_all state rows sound follow charges held disputes = record {
   order = order_with_all state rows sound.order follow;
   charges = charges;
   held = held;
+  disputes = disputes;
 }
