@@ -1,0 +1,5 @@
+pub mod Answers
+pub mod Closing
+pub mod Due
+pub mod Finding
+pub mod Opening
