@@ -1,5 +1,6 @@
 pub mod AmountLemmas
 pub mod BalanceLemmas
+pub mod BatchLemmas
 pub mod ChargeLemmas
 pub mod EnterLemmas
 pub mod FollowLemmas
