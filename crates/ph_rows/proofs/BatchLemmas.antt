@@ -1,9 +1,8 @@
 -- The rows of a batch that may follow those of a view, as rows are added to it.
-use Rattle.std.proofs.Common.{◌≡◌, ℕ, ◌+◌, ◌^◌, ◌≤◌, ◌<◌, Bool, true, false, List, [], ◌∷◌, ◌++◌, Option, None, Some, length, refl, sym, ap, ◌∙◌, subst, arith}
+use Rattle.std.proofs.Common.{◌≡◌, ℕ, ◌+◌, ◌^◌, ◌<◌, true, false, List, [], ◌∷◌, ◌++◌, Some, length, refl, arith}
 use Rattle.std.specs.List.{list_all}
 use Rattle.std.specs.Str.{is_utf8}
-use Rattle.std.proofs.lemmas.Bool.{false≢true}
-use Rattle.std.proofs.lemmas.List.{length-append, append-nil, append_assoc}
+use Rattle.std.proofs.lemmas.List.{length-append}
 use Rattle.ph_rows.specs.declared.rows.Row.{Row}
 use Rattle.ph_rows.specs.declared.items.Item.{Item}
 use Rattle.ph_rows.specs.declared.items.Item.TheVariants as item
@@ -11,12 +10,15 @@ use Rattle.ph_rows.specs.declared.events.Event.{Event}
 use Rattle.ph_rows.specs.declared.event_kinds.EventKind.{EventKind}
 use Rattle.ph_rows.specs.Batches.{BatchState, last_place, next_row, with_row, with_announced}
 use Rattle.ph_rows.specs.Kinds.{kind_of}
-use Rattle.ph_rows.specs.Origins.{Origin, HasOrigin, IsOrigin, is_made_once, origin_of}
+use Rattle.ph_rows.specs.Origins.{HasOrigin, is_made_once, origin_of}
 use Rattle.ph_rows.specs.Rows.{row_at}
-use Rattle.ph_rows.specs.Sound.{AllMayFollow, HasBegun, IsInOrder, MayFollow, with_next}
+use Rattle.ph_rows.specs.Sound.{AllMayFollow, IsInOrder, MayFollow}
 use Rattle.ph_rows.specs.Views.{ViewState}
 use Rattle.ph_rows.specs.Weights.{texts_of}
-use Rattle.ph_rows.proofs.SoundLemmas.{row_at-before, row_at-next, row_at_within}
+use Rattle.ph_rows.proofs.FollowLemmas.{IsNext, first_follows, follow_both, further_follows}
+use Rattle.ph_rows.proofs.SoundLemmas.{order_with_all, row_at-before}
+
+pub use Rattle.ph_rows.proofs.FollowLemmas.{has_begun_origin}
 
 -- the view with the rows of a batch behind its own
 abbrev pub with_batch : ViewState → BatchState → ViewState
@@ -28,15 +30,6 @@ pub record Continues (state : ViewState) (batch : BatchState) : Type 0 where
   pub at : batch.at ≡ state.time
   pub follow : AllMayFollow state batch.rows
 
--- rows that may follow, and one that may follow them
-follow_push : (state : ViewState) (rows : List Row) (new : Row) → AllMayFollow state rows
-    → MayFollow (record state { rows = state.rows ++ rows }) new → AllMayFollow state (rows ++ new ∷ [])
-follow_push state [] new follow last =
-    (subst (λ (all : List Row). MayFollow (record state { rows = all }) new) (append-nil state.rows) last, tt)
-follow_push state (row ∷ rows) new follow last =
-    (follow.0, follow_push (with_next state row) rows new follow.1
-    (subst (λ (all : List Row). MayFollow (record state { rows = all }) new) (sym (append_assoc state.rows (row ∷ []) rows)) last))
-
 -- a batch continues with a row that may follow its own
 pub continues_with : (state : ViewState) (batch : BatchState) (object account : ℕ) (content : Item) → Continues state batch
     → MayFollow (with_batch state batch) (next_row batch object account content)
@@ -44,7 +37,7 @@ pub continues_with : (state : ViewState) (batch : BatchState) (object account : 
 continues_with state batch object account content continues follows = record {
   began = continues.began;
   at = continues.at;
-  follow = follow_push state batch.rows (next_row batch object account content) continues.follow follows;
+  follow = follow_both state batch.rows (next_row batch object account content ∷ []) continues.follow (follows, tt);
 }
 
 -- what is announced adds no object row
@@ -62,31 +55,22 @@ pub record MayStand (rows : List Row) (content : Item) : Type 0 where
   pub origins : HasOrigin rows (origin_of content)
   pub silent : (event : Event) → content ≡ item.Event event → ⊥
 
--- a row that is the first version of its object begins it
-begins_itself : (rows : List Row) (new : Row) → new.object ≡ length rows + 1 → HasBegun (row_at new.object (rows ++ new ∷ [])) new
-begins_itself rows new object =
-    subst (λ (o : Option Row). HasBegun o new) (sym (ap (λ (o : ℕ). row_at o (rows ++ new ∷ [])) object ∙ row_at-next rows new))
-    (record { object = refl; account = refl; kind = refl })
+-- the next row of a batch stands at the next place behind the view and the batch
+next_is : (state : ViewState) (batch : BatchState) (object account : ℕ) (content : Item) → Continues state batch
+    → length state.rows + length batch.rows + 1 < 10 ^ 16 → list_all is_utf8 (texts_of content) ≡ true
+    → IsNext (with_batch state batch) (next_row batch object account content)
+next_is state batch object account content continues few texts =
+    let began : batch.began ≡ length state.rows = continues.began in
+    let count : length (state.rows ++ batch.rows) ≡ length state.rows + length batch.rows = length-append state.rows batch.rows in
+    record { few = omega arith; place = omega arith; at = continues.at; texts = texts }
 
 -- the first version of a new object may follow
 pub first_may_follow : (state : ViewState) (batch : BatchState) (account : ℕ) (content : Item) → Continues state batch
     → length state.rows + length batch.rows + 1 < 10 ^ 16 → MayStand (state.rows ++ batch.rows) content
     → MayFollow (with_batch state batch) (next_row batch (last_place batch + 1) account content)
 first_may_follow state batch account content continues few stands =
-    let began : batch.began ≡ length state.rows = continues.began in
-    let count : length (state.rows ++ batch.rows) ≡ length state.rows + length batch.rows = length-append state.rows batch.rows in
-    let new = next_row batch (last_place batch + 1) account content in
-    record {
-      few = omega arith;
-      place = omega arith;
-      at = continues.at;
-      begun = begins_itself (state.rows ++ batch.rows) new (omega arith);
-      first = omega arith;
-      once = λ is. refl;
-      texts = stands.texts;
-      origins = stands.origins;
-      events = λ event is. absurd (stands.silent event is);
-    }
+    let next = next_is state batch (last_place batch + 1) account content continues few stands.texts in
+    first_follows (with_batch state batch) (next_row batch (last_place batch + 1) account content) next next.place stands.origins stands.silent
 
 -- the batch continues with it
 pub continues_first : (state : ViewState) (batch : BatchState) (account : ℕ) (content : Item) → Continues state batch
@@ -101,38 +85,24 @@ pub record IsFurtherOf (old : Row) (content : Item) : Type 0 where
   pub kind : kind_of content ≡ kind_of old.item
   pub changes : is_made_once content ≡ false
 
+-- a further version of an object of which one stands in the view or in the batch may follow
+pub version_may_follow : (state : ViewState) (batch : BatchState) (old : Row) (content : Item) → IsInOrder state
+    → Continues state batch → row_at old.place (state.rows ++ batch.rows) ≡ Some old
+    → length state.rows + length batch.rows + 1 < 10 ^ 16 → list_all is_utf8 (texts_of content) ≡ true → IsFurtherOf old content
+    → MayFollow (with_batch state batch) (next_row batch old.object old.account content)
+version_may_follow state batch old content order continues there few texts further =
+    further_follows (with_batch state batch) old (next_row batch old.object old.account content)
+    (order_with_all state batch.rows order continues.follow) there
+    (next_is state batch old.object old.account content continues few texts)
+    (record { object = refl; account = refl; kind = further.kind }) further.changes
+
 -- a further version of an object that stands in the view may follow
 pub further_may_follow : (state : ViewState) (batch : BatchState) (old : Row) (content : Item) → IsInOrder state
     → Continues state batch → row_at old.place state.rows ≡ Some old → length state.rows + length batch.rows + 1 < 10 ^ 16
     → MayStand (state.rows ++ batch.rows) content → IsFurtherOf old content
     → MayFollow (with_batch state batch) (next_row batch old.object old.account content)
 further_may_follow state batch old content order continues there few stands further =
-    let began : batch.began ≡ length state.rows = continues.began in
-    let count : length (state.rows ++ batch.rows) ≡ length state.rows + length batch.rows = length-append state.rows batch.rows in
-    let first : old.object ≤ old.place = order.first old.place old there in
-    let within : old.place ≤ length state.rows = (row_at_within old.place state.rows old there).1 in
-    record {
-      few = omega arith;
-      place = omega arith;
-      at = continues.at;
-      begun = begun (row_at old.object state.rows) refl (order.begun old.place old there);
-      first = omega arith;
-      once = λ is. absurd (false≢true (sym further.changes ∙ is));
-      texts = stands.texts;
-      origins = stands.origins;
-      events = λ event is. absurd (stands.silent event is);
-    }
-  where
-    new : Row
-    new = next_row batch old.object old.account content
-
-    begun : (found : Option Row) → row_at old.object state.rows ≡ found → HasBegun found old
-        → HasBegun (row_at old.object ((state.rows ++ batch.rows) ++ new ∷ [])) new
-    begun None e h = absurd h
-    begun (Some first) e h =
-        subst (λ (o : Option Row). HasBegun o new)
-        (sym (ap (row_at old.object) (append_assoc state.rows batch.rows (new ∷ [])) ∙ row_at-before old.object state.rows (batch.rows ++ new ∷ []) first e))
-        (record { object = h.object; account = h.account; kind = h.kind ∙ sym further.kind })
+    version_may_follow state batch old content order continues (row_at-before old.place state.rows batch.rows old there) few stands.texts further
 
 -- the batch continues with it
 pub continues_further : (state : ViewState) (batch : BatchState) (old : Row) (content : Item) → IsInOrder state
@@ -142,9 +112,3 @@ pub continues_further : (state : ViewState) (batch : BatchState) (old : Row) (co
 continues_further state batch old content order continues there few stands further =
     continues_with state batch old.object old.account content continues
     (further_may_follow state batch old content order continues there few stands further)
-
--- a row that may follow is of the object that its number begins, which is what a transaction or a refund of it comes from
-pub has_begun_origin : (found : Option Row) (row : Row) → HasBegun found row
-    → IsOrigin found (record { kind = kind_of row.item; number = row.object })
-has_begun_origin None row h = absurd h
-has_begun_origin (Some first) row h = record { object = h.object; kind = h.kind }
