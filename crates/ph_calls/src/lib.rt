@@ -3,9 +3,12 @@
 
 mod call;
 mod check;
+mod clock;
+mod disputes;
 mod errors;
 mod intents;
 mod reading;
+mod refunds;
 mod route;
 mod row;
 mod table;
