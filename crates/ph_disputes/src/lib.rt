@@ -11,3 +11,5 @@ pub use answers::evidence;
 pub use closing::close;
 pub use due::open_due;
 pub use opening::open;
+#[cfg(test)]
+mod tests;
