@@ -1,10 +1,13 @@
 -- What a call comes to, in the order of its refusals.
-use Rattle.std.specs.Prelude.{ℕ, Bool, true, false, not, if◌then◌else◌, List, length, Option, Some, None, Result, Ok, Err, codes, bytes_eq}
+use Rattle.std.specs.Prelude.{ℕ, Bool, true, false, not, nat_lt, if◌then◌else◌, List, length, Option, Some, None, Result, Ok, Err, codes, bytes_eq}
+use Rattle.ph_base.specs.declared.ids.Kind.{Kind}
 use Rattle.ph_base.specs.declared.ids.Kind.TheVariants as kind
 use Rattle.ph_rows.specs.declared.rows.Row.{Row}
 use Rattle.ph_rows.specs.Batches.{BatchState, empty_batch}
+use Rattle.ph_rows.specs.Names.{owned_named}
+use Rattle.ph_json.specs.declared.doc.Doc.{Doc}
 use Rattle.ph_errors.specs.declared.api_error.ApiError.{ApiError}
-use Rattle.ph_errors.specs.Table.{InvalidApiKey, NoSuchAccount, NoSuchObject, error_of}
+use Rattle.ph_errors.specs.Table.{ClockBackwards, InvalidApiKey, NoSuchAccount, NoSuchObject, error_of}
 use Rattle.ph_http.specs.declared.message.Raw.{Raw}
 use Rattle.ph_kinds.specs.declared.authentication.Authentication.{Authentication}
 use Rattle.ph_kinds.specs.declared.authentication.Authentication.TheVariants.{Succeeded, Failed}
@@ -14,6 +17,7 @@ use Rattle.ph_calls.specs.declared.call.Call.{Call}
 use Rattle.ph_calls.specs.declared.call.Call.TheVariants as call
 use Rattle.ph_calls.specs.Reading.{reading_of}
 use Rattle.ph_calls.specs.Outcomes.{Outcome, Refuses, Adds}
+use Rattle.ph_views.specs.Balances.{balance_doc}
 use Rattle.ph_views.specs.Events.{platform}
 use Rattle.ph_views.specs.Values.{printed_id}
 use Rattle.ph_intents.specs.Authenticate.{authenticate_outcome, fail_authentication_outcome}
@@ -21,8 +25,11 @@ use Rattle.ph_intents.specs.Cancel.{cancel_outcome}
 use Rattle.ph_intents.specs.Capture.{capture_outcome}
 use Rattle.ph_intents.specs.Confirm.{confirm_outcome}
 use Rattle.ph_intents.specs.Create.{create_outcome, create_confirmed_outcome}
-use Rattle.ph_intents.specs.Finding.{intent_named}
 use Rattle.ph_intents.specs.Update.{update_outcome}
+use Rattle.ph_refunds.specs.Refunds.{refund_outcome}
+use Rattle.ph_disputes.specs.Answers.{evidence_outcome}
+use Rattle.ph_disputes.specs.Closing.{close_outcome}
+use Rattle.ph_disputes.specs.Due.{open_due_of}
 
 -- the credentials are the key of the setup
 abbrev pub is_key : List ℕ → Option (List ℕ) → Bool
@@ -39,6 +46,10 @@ abbrev pub found_outcome : Option Row → BatchState → Outcome
 found_outcome None batch = Refuses (error_of (NoSuchObject (codes "id")))
 found_outcome (Some row) batch = Adds row.object batch
 
+-- the retrieve of the object of a kind that the path names
+abbrev pub retrieved : List Row → Kind → List ℕ → BatchState → Outcome
+retrieved rows wanted id batch = found_outcome (owned_named rows platform wanted id) batch
+
 -- a create, which may be confirmed at once
 abbrev pub created : List Row → CreateIntent → BatchState → Outcome
 created rows call batch =
@@ -49,24 +60,48 @@ abbrev pub authenticated : List Row → Authenticate → BatchState → Authenti
 authenticated rows call batch Succeeded = authenticate_outcome rows platform call batch
 authenticated rows call batch Failed = fail_authentication_outcome rows platform call batch
 
--- what a call comes to when it is carried out
-abbrev pub carried : List Row → Call → BatchState → Outcome
-carried rows (call.CreateIntent c) batch = created rows c batch
-carried rows (call.GetIntent c) batch = found_outcome (intent_named rows platform c.id) batch
-carried rows (call.UpdateIntent c) batch = update_outcome rows platform c batch
-carried rows (call.ConfirmIntent c) batch = confirm_outcome rows platform c batch
-carried rows (call.CaptureIntent c) batch = capture_outcome rows platform c batch
-carried rows (call.CancelIntent c) batch = cancel_outcome rows platform c batch
-carried rows (call.Authenticate c) batch = authenticated rows c batch c.outcome
+-- an outcome, and the dispute of what it captures, where one is due
+abbrev pub and_opened : List Row → Outcome → Outcome
+and_opened rows (Refuses error) = Refuses error
+and_opened rows (Adds object batch) = Adds object (open_due_of rows object batch)
+
+-- what a call comes to: an outcome over the rows, a document that is shown, or a moment to which the clock is set
+pub data Upshot : Type 0 where
+  Makes : Outcome → Upshot
+  Shows : Doc → Upshot
+  Sets : ℕ → Upshot
+
+-- the setting of the clock at a time: it never goes back
+abbrev pub clock_set : ℕ → ℕ → Upshot
+clock_set now moment = if nat_lt moment now then Makes (Refuses (error_of ClockBackwards)) else Sets moment
+
+-- what a call comes to when it is carried out at a time
+abbrev pub carried : List Row → ℕ → Call → BatchState → Upshot
+carried rows now (call.CreateIntent c) batch = Makes (created rows c batch)
+carried rows now (call.GetIntent c) batch = Makes (retrieved rows kind.Intent c.id batch)
+carried rows now (call.UpdateIntent c) batch = Makes (update_outcome rows platform c batch)
+carried rows now (call.ConfirmIntent c) batch = Makes (confirm_outcome rows platform c batch)
+carried rows now (call.CaptureIntent c) batch = Makes (and_opened rows (capture_outcome rows platform c batch))
+carried rows now (call.CancelIntent c) batch = Makes (cancel_outcome rows platform c batch)
+carried rows now (call.GetCharge c) batch = Makes (retrieved rows kind.Charge c.id batch)
+carried rows now (call.CreateRefund c) batch = Makes (refund_outcome rows platform c batch)
+carried rows now (call.GetRefund c) batch = Makes (retrieved rows kind.Refund c.id batch)
+carried rows now (call.GetDispute c) batch = Makes (retrieved rows kind.Dispute c.id batch)
+carried rows now (call.SendEvidence c) batch = Makes (evidence_outcome rows platform c batch)
+carried rows now (call.CloseDispute c) batch = Makes (close_outcome rows platform c batch)
+carried rows now (call.GetBalance c) batch = Shows (balance_doc platform now rows)
+carried rows now (call.GetTxn c) batch = Makes (retrieved rows kind.Txn c.id batch)
+carried rows now (call.SetClock c) batch = clock_set now c.now
+carried rows now (call.Authenticate c) batch = Makes (authenticated rows c batch c.outcome)
 
 -- what a request comes to that is read so: as it is refused, or as its call is carried out
-abbrev pub read_outcome : List Row → Result Call ApiError → BatchState → Outcome
-read_outcome rows (Err error) batch = Refuses error
-read_outcome rows (Ok call) batch = carried rows call batch
+abbrev pub read_upshot : List Row → ℕ → Result Call ApiError → BatchState → Upshot
+read_upshot rows now (Err error) batch = Makes (Refuses error)
+read_upshot rows now (Ok call) batch = carried rows now call batch
 
 -- what a request comes to, over these rows at this time, as the entry of a place, where this is the key of the setup
-unfoldable pub called_at : List ℕ → List Row → ℕ → ℕ → Raw → Outcome
+unfoldable pub called_at : List ℕ → List Row → ℕ → ℕ → Raw → Upshot
 called_at key rows now place raw =
-    if not (is_key key raw.auth) then Refuses (error_of InvalidApiKey) else
-    (if not (is_platform raw.account) then Refuses (error_of NoSuchAccount) else
-    read_outcome rows (reading_of raw) (empty_batch (length rows) now place))
+    if not (is_key key raw.auth) then Makes (Refuses (error_of InvalidApiKey)) else
+    (if not (is_platform raw.account) then Makes (Refuses (error_of NoSuchAccount)) else
+    read_upshot rows now (reading_of raw) (empty_batch (length rows) now place))

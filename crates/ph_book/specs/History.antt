@@ -11,21 +11,24 @@ use Rattle.ph_rows.specs.declared.attempts.AttemptState.TheVariants as state
 use Rattle.ph_rows.specs.declared.orders.Order.{Order}
 use Rattle.ph_rows.specs.declared.rows.Row.{Row}
 use Rattle.ph_rows.specs.declared.items.Item.TheVariants as item
+use Rattle.ph_rows.specs.Items.{attempt_in}
 use Rattle.ph_rows.specs.declared.accounts.AccountType.TheVariants as sort
 use Rattle.ph_rows.specs.Batches.{BatchState, empty_batch, made_rows, with_row}
 use Rattle.ph_rows.specs.Rows.{latest_of}
 use Rattle.ph_rows.specs.Views.{ViewState}
 use Rattle.ph_http.specs.declared.message.Reply.{Reply}
+use Rattle.ph_json.specs.declared.doc.Doc.{Doc}
 use Rattle.ph_calls.specs.Outcomes.{Outcome, Refuses, Adds}
+use Rattle.ph_views.specs.Clocks.{clock_doc}
 use Rattle.ph_views.specs.Events.{platform}
-use Rattle.ph_intents.specs.Attempts.{attempt_in, begun}
+use Rattle.ph_intents.specs.Attempts.{begun}
 use Rattle.ph_intents.specs.Settle.{settle_outcome}
 use Rattle.ph_book.specs.declared.setup.Setup.{Setup}
 use Rattle.ph_book.specs.declared.acts.Entry.{Entry}
 use Rattle.ph_book.specs.declared.acts.Deed.{Deed}
 use Rattle.ph_book.specs.declared.acts.Deed.TheVariants as deed
-use Rattle.ph_book.specs.Replies.{Said, Replies, Waits, Silence, error_reply, shown_reply, ruling_reply, park_reply, replies_said}
-use Rattle.ph_book.specs.Calls.{called_at}
+use Rattle.ph_book.specs.Replies.{Said, Replies, Waits, Silence, doc_reply, error_reply, shown_reply, ruling_reply, park_reply, replies_said}
+use Rattle.ph_book.specs.Calls.{Upshot, Makes, Shows, Sets, and_opened, called_at}
 use Rattle.ph_book.specs.Runs.{after_step, run_in}
 
 -- what an entry comes to: what is said to it, the rows that it makes, its step of an attempt, and the time after it
@@ -42,7 +45,7 @@ nothing now = record { said = Silence; rows = []; step = None; now = now }
 -- an accepted call: where its batch begins an attempt with this order, a run, whose number is the call's place; else a reply. No event keeps a key yet
 abbrev pub added_effect : List Row → ℕ → ℕ → ℕ → ℕ → BatchState → Option Order → Effect
 added_effect rows now place caller object batch None =
-    record { said = Replies (shown_reply rows object batch); rows = made_rows None batch; step = None; now = now }
+    record { said = Replies (shown_reply now rows object batch); rows = made_rows None batch; step = None; now = now }
 added_effect rows now place caller object batch (Some order) = record {
   said = Waits order;
   rows = made_rows None batch;
@@ -50,22 +53,36 @@ added_effect rows now place caller object batch (Some order) = record {
   now = now;
 }
 
+-- a call that has an outcome over the rows
+abbrev pub outcome_effect : List Row → ℕ → ℕ → ℕ → Outcome → Effect
+outcome_effect rows now place caller (Refuses error) = record { said = Replies (error_reply error); rows = []; step = None; now = now }
+outcome_effect rows now place caller (Adds object batch) = added_effect rows now place caller object batch (begun batch)
+
+-- a call that shows a document, and leaves this time
+abbrev pub shown_effect : Doc → ℕ → Effect
+shown_effect doc now = record { said = Replies (doc_reply doc); rows = []; step = None; now = now }
+
 -- a call
-abbrev pub call_effect : List Row → ℕ → ℕ → ℕ → Outcome → Effect
-call_effect rows now place caller (Refuses error) = record { said = Replies (error_reply error); rows = []; step = None; now = now }
-call_effect rows now place caller (Adds object batch) = added_effect rows now place caller object batch (begun batch)
+abbrev pub call_effect : List Row → ℕ → ℕ → ℕ → Upshot → Effect
+call_effect rows now place caller (Makes outcome) = outcome_effect rows now place caller outcome
+call_effect rows now place caller (Shows doc) = shown_effect doc now
+call_effect rows now place caller (Sets moment) = shown_effect (clock_doc moment) moment
 
 -- the rows that an outcome makes: those of its batch, with its events
 abbrev pub outcome_rows : Outcome → List Row
 outcome_rows (Refuses error) = []
 outcome_rows (Adds object batch) = made_rows None batch
 
+-- what a ruling on an attempt comes to as the entry of a place: it is settled, and a dispute of what that captures is opened, where one is due
+abbrev pub ruled_outcome : List Row → ℕ → ℕ → ℕ → Ruling → Outcome
+ruled_outcome rows now place attempt ruling = and_opened rows (settle_outcome rows attempt ruling (empty_batch (length rows) now place))
+
 -- the ruling on the order of a run, where that is live: its attempt is settled
 abbrev pub finish_effect : List Row → ℕ → ℕ → Ruling → Option Flight → Effect
 finish_effect rows now place ruling None = nothing now
 finish_effect rows now place ruling (Some flight) = record {
-  said = Replies (ruling_reply rows ruling (settle_outcome rows flight.order.reference ruling (empty_batch (length rows) now place)));
-  rows = outcome_rows (settle_outcome rows flight.order.reference ruling (empty_batch (length rows) now place));
+  said = Replies (ruling_reply now rows ruling (ruled_outcome rows now place flight.order.reference ruling));
+  rows = outcome_rows (ruled_outcome rows now place flight.order.reference ruling);
   step = Some (Settles flight);
   now = now;
 }

@@ -7,6 +7,7 @@ pub mod History
 pub mod Legal
 pub mod Tickets
 pub mod Spares
+pub mod Stores
 pub mod Called
 pub mod State
 pub mod Laws

@@ -1,6 +1,5 @@
 -- Replies, and what is said to an entry.
 use Rattle.std.specs.Prelude.{ℕ, true, false, List, [], ◌∷◌, Option, Some, None, codes}
-use Rattle.std.specs.Option.{option_or}
 use Rattle.ph_base.specs.declared.acquirer.Decline.{Decline}
 use Rattle.ph_base.specs.declared.acquirer.Ruling.{Ruling}
 use Rattle.ph_base.specs.declared.acquirer.Ruling.TheVariants as ruling
@@ -8,14 +7,14 @@ use Rattle.ph_base.specs.declared.acquirer.Why.{Why}
 use Rattle.ph_base.specs.declared.acquirer.Why.TheVariants as why
 use Rattle.ph_rows.specs.declared.orders.Order.{Order}
 use Rattle.ph_rows.specs.declared.rows.Row.{Row}
-use Rattle.ph_rows.specs.Rows.{latest_of}
-use Rattle.ph_rows.specs.Batches.{BatchState}
+use Rattle.ph_rows.specs.Batches.{BatchState, version_with}
 use Rattle.ph_errors.specs.declared.api_error.ApiError.{ApiError}
 use Rattle.ph_errors.specs.Table.{Problem, AcquirerPending, AcquirerFailed, CardDeclined, NoMemory, NoSuchObject, error_of}
 use Rattle.ph_errors.specs.Body.{body_of}
 use Rattle.ph_http.specs.declared.message.Reply.{Reply}
 use Rattle.ph_calls.specs.Outcomes.{Outcome, Refuses, Adds}
 use Rattle.ph_json.specs.declared.doc.Doc.{Doc}
+use Rattle.ph_json.specs.Text.{text_of}
 use Rattle.ph_views.specs.Objects.{object_doc, object_text}
 
 -- the reply of an error, with the document of a payment intent inside or none
@@ -30,34 +29,38 @@ error_reply error = error_reply_with error None
 abbrev pub nothing_reply : Reply
 nothing_reply = error_reply (error_of (NoSuchObject (codes "id")))
 
--- the reply that shows a version of an object over the rows of a history; an object that isn't there is no such object
-abbrev pub version_reply : List Row → Option Row → Reply
-version_reply rows None = nothing_reply
-version_reply rows (Some row) = record { status = 200; body = object_text rows row; replayed = false; retry = false }
+-- the reply that shows a text
+abbrev pub text_reply : List ℕ → Reply
+text_reply text = record { status = 200; body = text; replayed = false; retry = false }
 
--- the last version of an object: in the batch of the entry where it stands there, and else in the rows before it
-abbrev pub version_with : List Row → BatchState → ℕ → Option Row
-version_with rows batch object = option_or (latest_of object batch.rows) (latest_of object rows)
+-- the reply that shows a document
+abbrev pub doc_reply : Doc → Reply
+doc_reply doc = text_reply (text_of doc)
+
+-- the reply that shows a version of an object at a time over the rows of a history; an object that isn't there is no such object
+abbrev pub version_reply : ℕ → List Row → Option Row → Reply
+version_reply now rows None = nothing_reply
+version_reply now rows (Some row) = text_reply (object_text now rows row)
 
 -- the reply that shows what an outcome shows, over the rows before it
-abbrev pub shown_reply : List Row → ℕ → BatchState → Reply
-shown_reply rows object batch = version_reply rows (version_with rows batch object)
+abbrev pub shown_reply : ℕ → List Row → ℕ → BatchState → Reply
+shown_reply now rows object batch = version_reply now rows (version_with rows batch object)
 
 -- the reply to a declined payment, with the payment intent inside
-abbrev pub declined_reply : List Row → Decline → Option Row → Reply
-declined_reply rows decline None = nothing_reply
-declined_reply rows decline (Some row) = error_reply_with (error_of (CardDeclined decline)) (Some (object_doc rows row))
+abbrev pub declined_reply : ℕ → List Row → Decline → Option Row → Reply
+declined_reply now rows decline None = nothing_reply
+declined_reply now rows decline (Some row) = error_reply_with (error_of (CardDeclined decline)) (Some (object_doc now rows row))
 
 -- the reply to a ruling that was entered: the payment intent, or the decline with the payment intent inside
-abbrev pub settled_reply : List Row → Ruling → ℕ → BatchState → Reply
-settled_reply rows ruling.Approved object batch = shown_reply rows object batch
-settled_reply rows (ruling.Declined decline) object batch = declined_reply rows decline (version_with rows batch object)
-settled_reply rows ruling.Challenge object batch = shown_reply rows object batch
+abbrev pub settled_reply : ℕ → List Row → Ruling → ℕ → BatchState → Reply
+settled_reply now rows ruling.Approved object batch = shown_reply now rows object batch
+settled_reply now rows (ruling.Declined decline) object batch = declined_reply now rows decline (version_with rows batch object)
+settled_reply now rows ruling.Challenge object batch = shown_reply now rows object batch
 
 -- the reply to a ruling whose outcome is this
-abbrev pub ruling_reply : List Row → Ruling → Outcome → Reply
-ruling_reply rows ruling (Refuses error) = error_reply error
-ruling_reply rows ruling (Adds object batch) = settled_reply rows ruling object batch
+abbrev pub ruling_reply : ℕ → List Row → Ruling → Outcome → Reply
+ruling_reply now rows ruling (Refuses error) = error_reply error
+ruling_reply now rows ruling (Adds object batch) = settled_reply now rows ruling object batch
 
 -- the error of a run that was given up
 abbrev pub problem_of : Why → Problem

@@ -19,13 +19,14 @@ use crate::endings::{Ending, parked_row, settled};
 use crate::room::{one_less, push_row, take_room};
 use crate::setup::Setup;
 use crate::spares::{Spare, add_spare, take_spare};
+use crate::store::Store;
 use crate::weights::{self, row_weight};
 use ph_attempts::{Attempts, Ticket};
 use ph_base::{Kind, NoMemory, Ruling, Why};
 use ph_http::{Raw, Reply};
 use ph_lock::Refused;
 use ph_money::Currency;
-use ph_rows::{Account, AccountType, Item, ListView, Metadata, Order, Row, View};
+use ph_rows::{Account, AccountType, Item, Metadata, Order, Row, View};
 use std::alloc::Global;
 use std::marker::Model;
 
@@ -35,7 +36,7 @@ pub struct Book {
     alloc: Global,
     setup: Setup,
     entries: Vec<Entry>,
-    view: ListView,
+    store: Store,
     weight: u64,
     attempts: Attempts,
     // the number of live runs
@@ -52,17 +53,16 @@ impl Model for Book {
 
     ghost view = { λ b. record { setup = b.setup; history = b.entries.items } };
 
-    ghost invariant = { λ b. IsBook b.setup b.entries.items b.view.rows b.view.time b.weight b.attempts b.live
-        × HasRoom b.live (length b.entries.items) (vec_capacity b.entries) b.view.room (length b.spares.items) b.weight };
+    ghost invariant = { λ b. IsBook b.setup b.entries.items b.store.rows b.store.time b.weight b.attempts b.live
+        × HasRoom b.live (length b.entries.items) (vec_capacity b.entries) b.store.room (length b.spares.items) b.weight };
 }
 
-// The view that every book begins with: the platform's own account.
-fn opening_view(alloc: Global, opened: u64) -> Result<ListView, NoMemory>
-    ensures rows { IfOk result (λ view. view.rows ≡ opening_row opened ∷ []) }
-    ensures time { IfOk result (λ view. view.time ≡ opened) }
+// What every book begins with: the platform's own account.
+fn opening_store(alloc: Global, opened: u64) -> Result<Store, NoMemory>
+    ensures rows { IfOk result (λ store. store.rows ≡ opening_row opened ∷ []) }
+    ensures time { IfOk result (λ store. store.time ≡ opened) }
 {
-    let mut opening = Vec::new(alloc);
-    opening.push(Row {
+    let row = Row {
         place: PLATFORM,
         object: PLATFORM,
         at: opened,
@@ -72,11 +72,8 @@ fn opening_view(alloc: Global, opened: u64) -> Result<ListView, NoMemory>
             email: None,
             metadata: Metadata::new(alloc),
         }),
-    })?;
-    let mut view = ListView::new(alloc, opened);
-    view.reserve(opening.len())?;
-    view.append_reserved(opening);
-    Ok(view)
+    };
+    Store::new(alloc, opened, row)
 }
 
 impl Book {
@@ -85,12 +82,12 @@ impl Book {
         requires opened { setup.opened ≤ clock_limit }
         ensures { IfOk result (λ book. book ≡ record { setup = setup; history = [] }) }
     {
-        let view = opening_view(alloc, setup.opened)?;
+        let store = opening_store(alloc, setup.opened)?;
         Ok(Book {
             alloc,
             setup,
             entries: Vec::new(alloc),
-            view,
+            store,
             weight: 256,
             attempts: Attempts::new(alloc),
             live: 0,
@@ -148,7 +145,7 @@ impl Book {
             return Err((raw, Refused::Full));
         }
         let place = self.entries.len() as u64 + 1;
-        match called_by(self.alloc, &self.setup.key, &self.view, place, &raw) {
+        match called_by(self.alloc, &self.setup.key, &self.store, place, &raw) {
             Ok(called) => match self.enter_called(caller, raw, called) {
                 Ok(answer) => Ok(answer),
                 Err(raw) => Err((raw, Refused::NoMemory)),
@@ -168,7 +165,7 @@ impl Book {
         ensures unchanged { IfErr result (λ back. (back ≡ raw) × (self.new ≡ self.old)) }
     {
         match called {
-            Called::Answered(reply, rows) => match self.enter(caller, raw, rows) {
+            Called::Answered(reply, rows, now) => match self.enter(caller, raw, rows, now) {
                 Ok(()) => Ok(Answer::Reply(reply)),
                 Err(raw) => Err(raw),
             },
@@ -179,13 +176,13 @@ impl Book {
         }
     }
 
-    // Enters a call that is answered at once, and makes these rows.
-    fn enter(&mut self, caller: u64, raw: Raw, rows: Vec<Row>) -> Result<(), Raw>
+    // Enters a call that is answered at once, makes these rows and leaves this time.
+    fn enter(&mut self, caller: u64, raw: Raw, rows: Vec<Row>, now: u64) -> Result<(), Raw>
         requires caller { caller < 2 ^ 62 }
         requires room { is_full self.old.setup self.old.history (deed.Call raw) ≡ false }
         requires rows { (effect_to self.old.setup self.old.history (call_entry caller raw)).rows ≡ rows.items }
         requires step { (effect_to self.old.setup self.old.history (call_entry caller raw)).step ≡ None }
-        requires now { (effect_to self.old.setup self.old.history (call_entry caller raw)).now ≡ time_of self.old.setup self.old.history }
+        requires now { (effect_to self.old.setup self.old.history (call_entry caller raw)).now ≡ now }
         ensures entry { OnOk result (self.new ≡ entered self.old (call_entry caller raw)) }
         ensures unchanged { IfErr result (λ back. (back ≡ raw) × (self.new ≡ self.old)) }
     {
@@ -193,7 +190,7 @@ impl Book {
         else {
             return Err(raw);
         };
-        match take_room(&mut self.entries, &mut self.view, rows.len(), self.live) {
+        match take_room(&mut self.entries, &mut self.store, rows.len(), self.live) {
             Ok(()) => {}
             Err(NoMemory) => return Err(raw),
         }
@@ -201,7 +198,8 @@ impl Book {
             caller,
             deed: Deed::Call(raw),
         });
-        self.view.append_reserved(rows);
+        self.store.append_reserved(rows);
+        self.store.advance(now);
         self.weight = weight;
         Ok(())
     }
@@ -224,7 +222,7 @@ impl Book {
         else {
             return Err(raw);
         };
-        match take_room(&mut self.entries, &mut self.view, rows.len(), live) {
+        match take_room(&mut self.entries, &mut self.store, rows.len(), live) {
             Ok(()) => {}
             Err(NoMemory) => return Err(raw),
         }
@@ -240,7 +238,7 @@ impl Book {
             caller,
             deed: Deed::Call(raw),
         });
-        self.view.append_reserved(rows);
+        self.store.append_reserved(rows);
         self.weight = weight;
         self.live = live;
         Ok(ticket)
@@ -257,14 +255,14 @@ impl Book {
         let live = one_less(self.live);
         let place = self.entries.len() as u64 + 1;
         let attempt = ticket.order().reference;
-        let Ending { reply, rows } = match settled(self.alloc, &self.view, place, attempt, ruling) {
+        let Ending { reply, rows } = match settled(self.alloc, &self.store, place, attempt, ruling) {
             Ok(ending) => ending,
             Err(NoMemory) => return Err(ticket),
         };
         let Some(weight) = weights::weight_after(self.weight, rows.as_slice(), live) else {
             return Err(ticket);
         };
-        match take_room(&mut self.entries, &mut self.view, rows.len(), live) {
+        match take_room(&mut self.entries, &mut self.store, rows.len(), live) {
             Ok(()) => {}
             Err(NoMemory) => return Err(ticket),
         }
@@ -274,7 +272,7 @@ impl Book {
             caller,
             deed: Deed::Finish(run, ruling),
         });
-        self.view.append_reserved(rows);
+        self.store.append_reserved(rows);
         self.weight = weight;
         self.live = live;
         let _spare = take_spare(&mut self.spares);
@@ -290,7 +288,7 @@ impl Book {
         ensures reply { result ≡ park_reply why }
     {
         let live = one_less(self.live);
-        let row = parked_row(&self.view, ticket.order().reference);
+        let row = parked_row(&self.store, ticket.order().reference);
         let run = ticket.run();
         self.attempts.park(ticket);
         self.entries.push_reserved(Entry {
@@ -298,7 +296,7 @@ impl Book {
             deed: Deed::Park(run, why),
         });
         self.weight += row_weight(&row);
-        push_row(&mut self.view, row);
+        push_row(&mut self.store, row);
         self.live = live;
         take_spare(&mut self.spares).reply(why)
     }
@@ -317,7 +315,7 @@ impl Book {
         if weights::has_no_place(&self.setup, used) {
             return Err(Refused::Full);
         }
-        match take_room(&mut self.entries, &mut self.view, 0, self.live) {
+        match take_room(&mut self.entries, &mut self.store, 0, self.live) {
             Ok(()) => {}
             Err(NoMemory) => return Err(Refused::NoMemory),
         }
@@ -325,7 +323,7 @@ impl Book {
             caller,
             deed: Deed::Tick(moment),
         });
-        self.view.set_time(self.view.time().max(moment));
+        self.store.advance(self.store.time().max(moment));
         Ok(())
     }
 
@@ -351,34 +349,34 @@ impl View for Book {
     ghost state = { λ b. view_of b.setup b.history };
 
     fn time(&self) -> u64 {
-        self.view.time()
+        self.store.time()
     }
 
     fn count(&self) -> u64 {
-        self.view.count()
+        self.store.count()
     }
 
     fn row(&self, place: u64) -> Option<&Row> {
-        self.view.row(place)
+        self.store.row(place)
     }
 
     fn latest(&self, object: u64) -> Option<&Row> {
-        self.view.latest(object)
+        self.store.latest(object)
     }
 
     fn newest(&self, account: u64, kind: Kind, below: u64) -> Option<&Row> {
-        self.view.newest(account, kind, below)
+        self.store.newest(account, kind, below)
     }
 
     fn oldest(&self, account: u64, kind: Kind, above: u64) -> Option<&Row> {
-        self.view.oldest(account, kind, above)
+        self.store.oldest(account, kind, above)
     }
 
     fn available(&self, account: u64, currency: Currency) -> i64 {
-        self.view.available(account, currency)
+        self.store.available(account, currency)
     }
 
     fn pending(&self, account: u64, currency: Currency) -> i64 {
-        self.view.pending(account, currency)
+        self.store.pending(account, currency)
     }
 }

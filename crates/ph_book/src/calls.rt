@@ -1,35 +1,51 @@
 //! What a call comes to.
 ghost use Rattle.std.specs.Prelude.{◌≡◌, ℕ, length, IfOk, None};
-ghost use Rattle.ph_rows.specs.Batches.{empty_batch};
-ghost use Rattle.ph_calls.specs.Outcomes.{Gives};
+ghost use Rattle.ph_rows.specs.Batches.{BatchState, empty_batch};
+ghost use Rattle.ph_rows.specs.Names.{owned_named};
+ghost use Rattle.ph_calls.specs.Outcomes.{Gives, Outcome};
 ghost use Rattle.ph_calls.specs.Reading.{reading_of};
+ghost use Rattle.ph_views.specs.Balances.{balance_doc};
 ghost use Rattle.ph_views.specs.Events.{platform};
 ghost use Rattle.ph_intents.specs.Attempts.{begun};
-ghost use Rattle.ph_intents.specs.Finding.{intent_named};
-ghost use Rattle.ph_book.specs.Calls.{authenticated, called_at, carried, created, found_outcome, is_key, is_platform, read_outcome};
-ghost use Rattle.ph_book.specs.Called.{IsCalled};
+ghost use Rattle.ph_intents.specs.Capture.{capture_outcome};
+ghost use Rattle.ph_book.specs.Calls.{Makes, Shows, and_opened, authenticated, called_at, carried, clock_set, created, is_key, is_platform, read_upshot, retrieved};
+ghost use Rattle.ph_book.specs.Called.{Comes, IsCalled};
 ghost use Rattle.ph_book.specs.History.{added_effect, call_effect};
 
-use crate::replies::{error_reply, shown_reply};
+use crate::replies::{doc_reply, error_reply, shown_reply};
+use crate::store::Store;
 use ph_base::{Bytes, Id, Kind, NoMemory, print_id};
-use ph_calls::{Authenticate, Call, CreateIntent, read_call};
+use ph_calls::{Authenticate, Call, CaptureIntent, CreateIntent, read_call};
+use ph_disputes::{close, evidence, open_due};
 use ph_errors::{ApiError, Refusal};
 use ph_http::{Raw, Reply};
-use ph_intents::{
-    Begin, begin, begun, cancel, capture, create, fail_authentication, intent_row, update,
-};
+use ph_intents::{Begin, begin, begun, cancel, capture, create, fail_authentication, update};
+use ph_json::Doc;
 use ph_kinds::Authentication;
-use ph_rows::{Batch, ListView, Order, Row, View};
+use ph_refunds::refund;
+use ph_rows::{Batch, Order, Row, View, owned_named};
+use ph_views::{balance_doc, clock_doc};
 use std::alloc::Global;
 
 /// The number of the platform's own account.
 pub const PLATFORM: u64 = 1;
 
+/// What was carried out of a call.
+#[derive(Drop)]
+pub enum Carried {
+    /// The batch was added to, and the object of this number is shown.
+    Added(u64),
+    /// This document is shown.
+    Shown(Doc),
+    /// The clock is set to this moment, in seconds since 1970.
+    Set(u64),
+}
+
 /// What a call comes to, with the rows that it makes.
 #[derive(Drop, Debug)]
 pub enum Called {
-    /// It is answered by this reply.
-    Answered(Reply, Vec<Row>),
+    /// It is answered by this reply, and leaves this time.
+    Answered(Reply, Vec<Row>, u64),
     /// It waits until the acquirer has ruled on this order.
     Waiting(Order, Vec<Row>),
 }
@@ -60,11 +76,11 @@ fn is_platform(account: &Option<Bytes>) -> bool
     }
 }
 
-// A retrieve of the payment intent whose id stands in the path.
-fn retrieve(alloc: Global, view: &ListView, id: &[u8], batch: &Batch) -> Result<u64, Refusal>
-    ensures { Gives (found_outcome (intent_named view.now.rows platform id.now) batch.now) result batch.now }
+// A retrieve of the object of a kind whose id stands in the path.
+fn retrieve(alloc: Global, store: &Store, kind: Kind, id: &[u8], batch: &Batch) -> Result<u64, Refusal>
+    ensures { Gives (retrieved store.now.rows kind id.now batch.now) result batch.now }
 {
-    match intent_row(view, PLATFORM, id) {
+    match owned_named(store, PLATFORM, kind, id) {
         Some(row) => Ok(row.object),
         None => Err(Refusal::of(ApiError::no_such_object(alloc, b"id"))),
     }
@@ -73,77 +89,145 @@ fn retrieve(alloc: Global, view: &ListView, id: &[u8], batch: &Batch) -> Result<
 // A create, which may be confirmed at once.
 fn make(
     alloc: Global,
-    view: &ListView,
+    store: &Store,
     call: &CreateIntent,
     batch: &mut Batch,
 ) -> Result<u64, Refusal>
-    ensures { Gives (created view.now.rows call.now batch.old) result batch.new }
+    ensures { Gives (created store.now.rows call.now batch.old) result batch.new }
 {
     if call.confirm {
-        begin(alloc, view, PLATFORM, Begin::Create(call), batch)
+        begin(alloc, store, PLATFORM, Begin::Create(call), batch)
     } else {
-        create(alloc, view, PLATFORM, call, batch)
+        create(alloc, store, PLATFORM, call, batch)
+    }
+}
+
+// A capture, and the dispute of what it captures, where one is due.
+fn take(
+    alloc: Global,
+    store: &Store,
+    call: &CaptureIntent,
+    batch: &mut Batch,
+) -> Result<u64, Refusal>
+    ensures { Gives (and_opened store.now.rows (capture_outcome store.now.rows platform call.now batch.old)) result batch.new }
+{
+    match capture(alloc, store, PLATFORM, call, batch) {
+        Ok(object) => match open_due(alloc, store, object, batch) {
+            Ok(()) => Ok(object),
+            Err(NoMemory) => Err(Refusal::NoMemory),
+        },
+        Err(refusal) => Err(refusal),
     }
 }
 
 // An authentication, which succeeded or failed.
 fn authenticate(
     alloc: Global,
-    view: &ListView,
+    store: &Store,
     call: &Authenticate,
     batch: &mut Batch,
 ) -> Result<u64, Refusal>
-    ensures { Gives (authenticated view.now.rows call.now batch.old call.now.outcome) result batch.new }
+    ensures { Gives (authenticated store.now.rows call.now batch.old call.now.outcome) result batch.new }
 {
     match call.outcome {
         Authentication::Succeeded => {
-            begin(alloc, view, PLATFORM, Begin::Authenticate(call), batch)
+            begin(alloc, store, PLATFORM, Begin::Authenticate(call), batch)
         }
-        Authentication::Failed => fail_authentication(alloc, view, PLATFORM, call, batch),
+        Authentication::Failed => fail_authentication(alloc, store, PLATFORM, call, batch),
+    }
+}
+
+// The balance of the platform.
+fn balance(alloc: Global, store: &Store) -> Result<Carried, Refusal>
+    ensures { (batch : BatchState) → Comes (Shows (balance_doc platform store.now.time store.now.rows)) result batch }
+{
+    match balance_doc(alloc, store, PLATFORM) {
+        Ok(doc) => Ok(Carried::Shown(doc)),
+        Err(NoMemory) => Err(Refusal::NoMemory),
+    }
+}
+
+// The setting of the clock to a moment, which is not before the time.
+fn set_clock(alloc: Global, now: u64, moment: u64) -> Result<Carried, Refusal>
+    ensures { (batch : BatchState) → Comes (clock_set now moment) result batch }
+{
+    if moment < now {
+        Err(Refusal::of(ApiError::clock_backwards(alloc)))
+    } else {
+        Ok(Carried::Set(moment))
+    }
+}
+
+// What an operation carried out.
+fn added(given: Result<u64, Refusal>) -> Result<Carried, Refusal>
+    ensures { (outcome : Outcome) (batch : BatchState) → Gives outcome given batch → Comes (Makes outcome) result batch }
+{
+    match given {
+        Ok(object) => Ok(Carried::Added(object)),
+        Err(refusal) => Err(refusal),
     }
 }
 
 // Carries a call out: one arm for each row of the table of calls.
-fn carry(alloc: Global, view: &ListView, call: &Call, batch: &mut Batch) -> Result<u64, Refusal>
-    ensures { Gives (carried view.now.rows call.now batch.old) result batch.new }
+fn carry(alloc: Global, store: &Store, call: &Call, batch: &mut Batch) -> Result<Carried, Refusal>
+    ensures { Comes (carried store.now.rows store.now.time call.now batch.old) result batch.new }
 {
     match call {
-        Call::CreateIntent(call) => make(alloc, view, call, batch),
-        Call::GetIntent(call) => retrieve(alloc, view, call.id.as_slice(), batch),
-        Call::UpdateIntent(call) => update(alloc, view, PLATFORM, call, batch),
-        Call::ConfirmIntent(call) => begin(alloc, view, PLATFORM, Begin::Confirm(call), batch),
-        Call::CaptureIntent(call) => capture(alloc, view, PLATFORM, call, batch),
-        Call::CancelIntent(call) => cancel(alloc, view, PLATFORM, call, batch),
-        Call::Authenticate(call) => authenticate(alloc, view, call, batch),
+        Call::CreateIntent(call) => added(make(alloc, store, call, batch)),
+        Call::GetIntent(call) => {
+            added(retrieve(alloc, store, Kind::Intent, call.id.as_slice(), batch))
+        }
+        Call::UpdateIntent(call) => added(update(alloc, store, PLATFORM, call, batch)),
+        Call::ConfirmIntent(call) => {
+            added(begin(alloc, store, PLATFORM, Begin::Confirm(call), batch))
+        }
+        Call::CaptureIntent(call) => added(take(alloc, store, call, batch)),
+        Call::CancelIntent(call) => added(cancel(alloc, store, PLATFORM, call, batch)),
+        Call::GetCharge(call) => {
+            added(retrieve(alloc, store, Kind::Charge, call.id.as_slice(), batch))
+        }
+        Call::CreateRefund(call) => added(refund(alloc, store, PLATFORM, call, batch)),
+        Call::GetRefund(call) => {
+            added(retrieve(alloc, store, Kind::Refund, call.id.as_slice(), batch))
+        }
+        Call::GetDispute(call) => {
+            added(retrieve(alloc, store, Kind::Dispute, call.id.as_slice(), batch))
+        }
+        Call::SendEvidence(call) => added(evidence(alloc, store, PLATFORM, call, batch)),
+        Call::CloseDispute(call) => added(close(alloc, store, PLATFORM, call, batch)),
+        Call::GetBalance(_) => balance(alloc, store),
+        Call::GetTxn(call) => added(retrieve(alloc, store, Kind::Txn, call.id.as_slice(), batch)),
+        Call::SetClock(call) => set_clock(alloc, store.time(), call.now),
+        Call::Authenticate(call) => added(authenticate(alloc, store, call, batch)),
     }
 }
 
 // Carries out the call that a request is.
 fn read_and_carry(
     alloc: Global,
-    view: &ListView,
+    store: &Store,
     raw: &Raw,
     batch: &mut Batch,
-) -> Result<u64, Refusal>
-    ensures { Gives (read_outcome view.now.rows (reading_of raw.now) batch.old) result batch.new }
+) -> Result<Carried, Refusal>
+    ensures { Comes (read_upshot store.now.rows store.now.time (reading_of raw.now) batch.old) result batch.new }
 {
     match read_call(alloc, raw) {
-        Ok(call) => carry(alloc, view, &call, batch),
+        Ok(call) => carry(alloc, store, &call, batch),
         Err(refusal) => Err(refusal),
     }
 }
 
 // What a request comes to, with the batch of its entry.
 #[tactic(auto, unfolding(crate::specs::Calls::called_at))]
-fn outcome(
+fn upshot(
     alloc: Global,
     key: &Bytes,
-    view: &ListView,
+    store: &Store,
     raw: &Raw,
     batch: &mut Batch,
-) -> Result<u64, Refusal>
-    requires begun { batch.old ≡ empty_batch (length view.now.rows) view.now.time batch.old.entry }
-    ensures { Gives (called_at key.now view.now.rows view.now.time batch.old.entry raw.now) result batch.new }
+) -> Result<Carried, Refusal>
+    requires begun { batch.old ≡ empty_batch (length store.now.rows) store.now.time batch.old.entry }
+    ensures { Comes (called_at key.now store.now.rows store.now.time batch.old.entry raw.now) result batch.new }
 {
     if !is_key(key, &raw.auth) {
         return Err(Refusal::of(ApiError::invalid_api_key(alloc)));
@@ -151,38 +235,46 @@ fn outcome(
     if !is_platform(&raw.account) {
         return Err(Refusal::of(ApiError::no_such_account(alloc)));
     }
-    read_and_carry(alloc, view, raw, batch)
+    read_and_carry(alloc, store, raw, batch)
 }
 
 // What an accepted call comes to, which shows an object: a run where its batch begins an attempt, and else a reply.
-fn added(alloc: Global, view: &ListView, object: u64, batch: Batch) -> Result<Called, NoMemory>
-    ensures { (place caller : ℕ) → IfOk result (λ called. IsCalled view.now.time place caller (added_effect view.now.rows view.now.time place caller object batch (begun batch)) called) }
+fn shown(alloc: Global, store: &Store, object: u64, batch: Batch) -> Result<Called, NoMemory>
+    ensures { (place caller : ℕ) → IfOk result (λ called. IsCalled store.now.time place caller (added_effect store.now.rows store.now.time place caller object batch (begun batch)) called) }
 {
     match begun(&batch) {
         None => {
-            let reply = shown_reply(alloc, view, object, &batch)?;
-            Ok(Called::Answered(reply, batch.into_rows(alloc, None)?))
+            let reply = shown_reply(alloc, store, object, &batch)?;
+            Ok(Called::Answered(reply, batch.into_rows(alloc, None)?, store.time()))
         }
         Some(order) => Ok(Called::Waiting(order, batch.into_rows(alloc, None)?)),
     }
 }
 
-/// What a request comes to over the rows of a view, as the entry of a place, where this is the key of the setup.
+/// What a request comes to over the rows of a store, as the entry of a place, where this is the key of the setup.
 pub fn called_by(
     alloc: Global,
     key: &Bytes,
-    view: &ListView,
+    store: &Store,
     place: u64,
     raw: &Raw,
 ) -> Result<Called, NoMemory>
-    ensures { (caller : ℕ) → IfOk result (λ called. IsCalled view.now.time place caller (call_effect view.now.rows view.now.time place caller (called_at key.now view.now.rows view.now.time place raw.now)) called) }
+    ensures { (caller : ℕ) → IfOk result (λ called. IsCalled store.now.time place caller (call_effect store.now.rows store.now.time place caller (called_at key.now store.now.rows store.now.time place raw.now)) called) }
 {
-    let mut batch = Batch::new(alloc, view.rows().len() as u64, view.time(), place);
-    match outcome(alloc, key, view, raw, &mut batch) {
-        Ok(object) => added(alloc, view, object, batch),
+    let mut batch = Batch::new(alloc, store.rows().len() as u64, store.time(), place);
+    match upshot(alloc, key, store, raw, &mut batch) {
+        Ok(Carried::Added(object)) => shown(alloc, store, object, batch),
+        Ok(Carried::Shown(doc)) => {
+            let reply = doc_reply(alloc, &doc)?;
+            Ok(Called::Answered(reply, Vec::new(alloc), store.time()))
+        }
+        Ok(Carried::Set(moment)) => {
+            let reply = doc_reply(alloc, &clock_doc(alloc, moment)?)?;
+            Ok(Called::Answered(reply, Vec::new(alloc), moment))
+        }
         Err(Refusal::Api(error)) => {
             let reply = error_reply(alloc, &error, None)?;
-            Ok(Called::Answered(reply, Vec::new(alloc)))
+            Ok(Called::Answered(reply, Vec::new(alloc), store.time()))
         }
         Err(Refusal::NoMemory) => Err(NoMemory),
     }

@@ -10,6 +10,7 @@ mod replies;
 mod room;
 mod setup;
 mod spares;
+mod store;
 #[cfg(test)]
 mod tests;
 mod weights;

@@ -1,13 +1,15 @@
 //! Replies.
 ghost use Rattle.std.specs.Prelude.{◌≡◌, None, IfOk};
 ghost use Rattle.std.specs.Option.{option_copied};
-ghost use Rattle.ph_book.specs.Replies.{declined_reply, error_reply_with, nothing_reply, settled_reply, shown_reply, version_reply, version_with};
+ghost use Rattle.ph_rows.specs.Batches.{version_with};
+ghost use Rattle.ph_book.specs.Replies.{declined_reply, doc_reply, error_reply_with, nothing_reply, settled_reply, shown_reply, text_reply, version_reply};
 
-use ph_base::{Decline, NoMemory, Ruling};
+use crate::store::Store;
+use ph_base::{Bytes, Decline, NoMemory, Ruling};
 use ph_errors::{ApiError, body};
 use ph_http::Reply;
-use ph_json::Doc;
-use ph_rows::{Batch, ListView, Row, View};
+use ph_json::{Doc, text};
+use ph_rows::{Batch, Row, View};
 use ph_views::{item_doc, item_text};
 use std::alloc::Global;
 
@@ -30,57 +32,71 @@ fn nothing_reply(alloc: Global) -> Result<Reply, NoMemory>
     error_reply(alloc, &ApiError::no_such_object(alloc, b"id")?, None)
 }
 
-// The reply that shows a version of an object over the rows of a view. Where there is none, it is the reply of
+// The reply that shows a text.
+fn text_reply(text: Bytes) -> Reply
+    ensures { result ≡ text_reply text }
+{
+    Reply {
+        status: 200,
+        body: text,
+        replayed: false,
+        retry: false,
+    }
+}
+
+/// The reply that shows a document.
+pub fn doc_reply(alloc: Global, doc: &Doc) -> Result<Reply, NoMemory>
+    ensures { IfOk result (λ reply. reply ≡ doc_reply doc.now) }
+{
+    Ok(text_reply(text(alloc, doc)?))
+}
+
+// The reply that shows a version of an object over the rows of a store. Where there is none, it is the reply of
 // `no_such_object`.
-fn version_reply(alloc: Global, view: &ListView, row: Option<&Row>) -> Result<Reply, NoMemory>
-    ensures { IfOk result (λ reply. reply ≡ version_reply view.now.rows (option_copied row.entry)) }
+fn version_reply(alloc: Global, store: &Store, row: Option<&Row>) -> Result<Reply, NoMemory>
+    ensures { IfOk result (λ reply. reply ≡ version_reply store.now.time store.now.rows (option_copied row.entry)) }
 {
     match row {
         None => nothing_reply(alloc),
-        Some(row) => Ok(Reply {
-            status: 200,
-            body: item_text(alloc, view, row)?,
-            replayed: false,
-            retry: false,
-        }),
+        Some(row) => Ok(text_reply(item_text(alloc, store, row)?)),
     }
 }
 
-// The last version of an object: in the batch of the entry where it stands there, and else in the view.
-fn version_with<'a>(view: &'a ListView, batch: &'a Batch, object: u64) -> Option<&'a Row>
-    ensures { option_copied result ≡ version_with view.now.rows batch.now object }
+// The last version of an object: in the batch of the entry where it stands there, and else in the store.
+fn version_with<'a>(store: &'a Store, batch: &'a Batch, object: u64) -> Option<&'a Row>
+    ensures { option_copied result ≡ version_with store.now.rows batch.now object }
 {
     match batch.latest(object) {
         Some(row) => Some(row),
-        None => view.latest(object),
+        None => store.latest(object),
     }
 }
 
-/// The reply that shows an object: its last version in the batch of the entry, and else in the view.
+/// The reply that shows an object: its last version in the batch of the entry, and else in the store.
 pub fn shown_reply(
     alloc: Global,
-    view: &ListView,
+    store: &Store,
     object: u64,
     batch: &Batch,
 ) -> Result<Reply, NoMemory>
-    ensures { IfOk result (λ reply. reply ≡ shown_reply view.now.rows object batch.now) }
+    ensures { IfOk result (λ reply. reply ≡ shown_reply store.now.time store.now.rows object batch.now) }
 {
-    version_reply(alloc, view, version_with(view, batch, object))
+    version_reply(alloc, store, version_with(store, batch, object))
 }
 
 // The reply to a declined payment, with the payment intent inside.
 fn declined_reply(
     alloc: Global,
-    view: &ListView,
+    store: &Store,
     decline: Decline,
     row: Option<&Row>,
 ) -> Result<Reply, NoMemory>
-    ensures { IfOk result (λ reply. reply ≡ declined_reply view.now.rows decline (option_copied row.entry)) }
+    ensures { IfOk result (λ reply. reply ≡ declined_reply store.now.time store.now.rows decline (option_copied row.entry)) }
 {
     match row {
         None => nothing_reply(alloc),
         Some(row) => {
-            let intent = item_doc(alloc, view, row)?;
+            let intent = item_doc(alloc, store, row)?;
             error_reply(
                 alloc,
                 &ApiError::card_declined(alloc, decline)?,
@@ -93,17 +109,17 @@ fn declined_reply(
 /// The reply to a ruling that was entered: the payment intent, or the decline with the payment intent inside.
 pub fn settled_reply(
     alloc: Global,
-    view: &ListView,
+    store: &Store,
     ruling: Ruling,
     object: u64,
     batch: &Batch,
 ) -> Result<Reply, NoMemory>
-    ensures { IfOk result (λ reply. reply ≡ settled_reply view.now.rows ruling object batch.now) }
+    ensures { IfOk result (λ reply. reply ≡ settled_reply store.now.time store.now.rows ruling object batch.now) }
 {
     match ruling {
-        Ruling::Approved | Ruling::Challenge => shown_reply(alloc, view, object, batch),
+        Ruling::Approved | Ruling::Challenge => shown_reply(alloc, store, object, batch),
         Ruling::Declined(decline) => {
-            declined_reply(alloc, view, decline, version_with(view, batch, object))
+            declined_reply(alloc, store, decline, version_with(store, batch, object))
         }
     }
 }

@@ -2,13 +2,14 @@
 ghost use Rattle.std.specs.Prelude.{◌≡◌, ◌+◌, ◌^◌, ◌<◌, ◌≤◌, ◌++◌, length, vec_capacity, option_to_list, OnOk};
 
 use crate::acts::Entry;
+use crate::store::Store;
 use ph_base::NoMemory;
-use ph_rows::{ListView, Row};
+use ph_rows::Row;
 
 /// Takes room for so many rows, and for an entry, and beside them for an entry and a row at the end of each live run.
 pub fn take_room(
     entries: &mut Vec<Entry>,
-    view: &mut ListView,
+    store: &mut Store,
     rows: usize,
     live: usize,
 ) -> Result<(), NoMemory>
@@ -16,24 +17,24 @@ pub fn take_room(
     ensures entries { entries.new.items ≡ entries.old.items }
     ensures entries_room { OnOk result (length entries.new.items + 1 + live ≤ vec_capacity entries.new) }
     ensures entries_kept { vec_capacity entries.old ≤ vec_capacity entries.new }
-    ensures rows { view.new.rows ≡ view.old.rows }
-    ensures time { view.new.time ≡ view.old.time }
-    ensures rows_room { OnOk result (rows + live ≤ view.new.room) }
-    ensures rows_kept { view.old.room ≤ view.new.room }
+    ensures rows { store.new.rows ≡ store.old.rows }
+    ensures time { store.new.time ≡ store.old.time }
+    ensures rows_room { OnOk result (rows + live ≤ store.new.room) }
+    ensures rows_kept { store.old.room ≤ store.new.room }
 {
     entries.reserve(live + 1)?;
-    view.reserve(rows + live)
+    store.reserve(rows + live)
 }
 
 /// Adds a row, where there is one. There is room for it, and it takes no memory.
-pub fn push_row(view: &mut ListView, row: Option<Row>)
-    requires { 0 < view.old.room }
-    ensures rows { view.new.rows ≡ view.old.rows ++ option_to_list row }
-    ensures time { view.new.time ≡ view.old.time }
-    ensures room { view.old.room ≤ view.new.room + 1 }
+pub fn push_row(store: &mut Store, row: Option<Row>)
+    requires { 0 < store.old.room }
+    ensures rows { store.new.rows ≡ store.old.rows ++ option_to_list row }
+    ensures time { store.new.time ≡ store.old.time }
+    ensures room { store.old.room ≤ store.new.room + 1 }
 {
     match row {
-        Some(row) => view.push_reserved(row),
+        Some(row) => store.push_reserved(row),
         None => {}
     }
 }

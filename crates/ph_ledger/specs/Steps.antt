@@ -3,12 +3,16 @@ use Rattle.std.specs.Prelude.{ℕ, Bool, List, [], ◌∷◌, ◌++◌, Option, 
 use Rattle.std.specs.List.{fold, filter_map}
 use Rattle.ph_rows.specs.declared.rows.Row.{Row}
 use Rattle.ph_rows.specs.Items.{txn_in}
-use Rattle.ph_rows.specs.Views.{ViewState}
+use Rattle.ph_rows.specs.Views.{ListState, ViewState}
 
 -- a transaction is posted, or the ledger goes on to a moment
 pub data Step : Type 0 where
   Posts : Row → Step
   Advances : ℕ → Step
+
+-- what a ledger shows: its moment, and the posted rows
+abbrev pub shown : ListState → ViewState
+shown ledger = record { time = ledger.time; rows = ledger.rows }
 
 -- a ledger in which nothing is posted
 abbrev pub no_ledger : ViewState

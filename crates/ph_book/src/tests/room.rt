@@ -36,7 +36,8 @@ fn is_full(
                 assert_eq!(rt; book.history().len(), entries);
                 assert_eq!(rt; book.count(), rows);
             }
-            Ok(Answer::Reply(_)) | Ok(Answer::Done) => assert!(rt; false),
+            Ok(Answer::Reply(_)) => assert!(rt; false),
+            Ok(Answer::Done) => assert!(rt; false),
             Ok(Answer::Wait(ticket)) => {
                 park(book, ticket, Why::Pending);
                 assert!(rt; false);
