@@ -17,7 +17,6 @@ use Rattle.ph_rows.specs.Views.{ViewState}
 use Rattle.ph_rows.specs.Weights.{texts_of}
 use Rattle.ph_rows.proofs.FollowLemmas.{IsNext, first_follows, follow_both, further_follows}
 use Rattle.ph_rows.proofs.SoundLemmas.{order_with_all, row_at-before}
-
 pub use Rattle.ph_rows.proofs.FollowLemmas.{has_begun_origin}
 
 -- the view with the rows of a batch behind its own
