@@ -28,7 +28,7 @@ use Rattle.ph_rows.proofs.ChargeLemmas.{sums_stay, touches}
 use Rattle.ph_rows.proofs.MoveLemmas.{is_of_dispute, moves_stay}
 use Rattle.ph_intents.specs.Attempts.{attempted, new_attempt, with_attempt}
 use Rattle.ph_intents.specs.Create.{created_with}
-use Rattle.ph_intents.specs.Keeps.{AddsSound, AreUtf8, IsReady, batch_after}
+use Rattle.ph_calls.specs.Keeps.{AddsSound, AreUtf8, IsReady, batch_after}
 use Rattle.ph_intents.specs.Versions.{adds_told, with_told, with_version}
 use Rattle.ph_intents.proofs.HoldLemmas.{Each, Spares, held_known, held_others, hold_stays}
 
