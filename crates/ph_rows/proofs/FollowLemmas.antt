@@ -92,14 +92,16 @@ first_follows state new next object origin none = record {
   events = λ event is. absurd (none event is);
 }
 
+-- a row that may follow is of the object that its number begins, which is what a transaction or a refund of it comes from
+pub has_begun_origin : (found : Option Row) (row : Row) → HasBegun found row
+    → IsOrigin found (record { kind = kind_of row.item; number = row.object })
+has_begun_origin None row h = absurd h
+has_begun_origin (Some first) row h = record { object = h.object; kind = h.kind }
+
 -- an object of which a version stands is there for what is made for it
 pub origin_stands : (state : ViewState) (old : Row) → IsInOrder state → row_at old.place state.rows ≡ Some old
     → HasOrigin state.rows (Some (record { kind = kind_of old.item; number = old.object }))
-origin_stands state old order stands = at (row_at old.object state.rows) (order.begun old.place old stands)
-  where
-    at : (found : Option Row) → HasBegun found old → IsOrigin found (record { kind = kind_of old.item; number = old.object })
-    at None h = absurd h
-    at (Some first) h = record { object = h.object; kind = h.kind }
+origin_stands state old order stands = has_begun_origin (row_at old.object state.rows) old (order.begun old.place old stands)
 
 -- the row of an event that speaks of the object of a row that stands
 pub record TellsOf (subject new : Row) (event : Event) : Type 0 where
@@ -142,6 +144,8 @@ pub follow_both : (state : ViewState) (rows more : List Row) → AllMayFollow st
     → AllMayFollow (record state { rows = state.rows ++ rows }) more → AllMayFollow state (rows ++ more)
 follow_both state [] more first second =
     subst (λ (all : List Row). AllMayFollow (record state { rows = all }) more) (append-nil state.rows) second
-follow_both state (row ∷ rows) more first second =
-    (first.0, follow_both (with_next state row) rows more first.1
-    (subst (λ (all : List Row). AllMayFollow (record state { rows = all }) more) (sym (append_assoc state.rows (row ∷ []) rows)) second))
+follow_both state (row ∷ rows) more first second = (
+  first.0,
+  follow_both (with_next state row) rows more first.1
+      (subst (λ (all : List Row). AllMayFollow (record state { rows = all }) more) (sym (append_assoc state.rows (row ∷ []) rows)) second),
+)

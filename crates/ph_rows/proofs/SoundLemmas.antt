@@ -274,6 +274,21 @@ pub latest_of_sound : (state : ViewState) (object : ℕ) (row : Row) → IsSound
     → latest_of object state.rows ≡ Some row → (row_at row.place state.rows ≡ Some row) × (row.object ≡ object)
 latest_of_sound state object row sound e = latest_of_order state object row sound.order e
 
+-- an object that is made after the rows has no version among them
+pub latest_of-later : (state : ViewState) (object : ℕ) → IsInOrder state → length state.rows < object
+    → latest_of object state.rows ≡ None
+latest_of-later state object order later = at (latest_of object state.rows) refl
+  where
+    at : (found : Option Row) → latest_of object state.rows ≡ found → found ≡ None
+    at None e = refl
+    at (Some row) e =
+        let stands : (row_at row.place state.rows ≡ Some row) × (row.object ≡ object) = latest_of_order state object row order e in
+        let first : row.object ≤ row.place = order.first row.place row stands.0 in
+        let within : (0 < row.place) × (row.place ≤ length state.rows) = row_at_within row.place state.rows row stands.0 in
+        let last : row.place ≤ length state.rows = within.1 in
+        let same : row.object ≡ object = stands.1 in
+        absurd (omega arith)
+
 -- the present version of an object is one of the object that its number begins
 pub latest_has_begun : (state : ViewState) (object : ℕ) (row : Row) → IsSound state → latest_of object state.rows ≡ Some row
     → HasBegun (row_at object state.rows) row
@@ -299,8 +314,8 @@ pub stands_behind : (state : ViewState) (more : List Row) (i : ℕ) (row : Row) 
 stands_behind state more i row order found =
     let before : length state.rows + i ≡ (length state.rows + i + 1) - 1 = omega arith in
     let place : row_at (length state.rows + i + 1) (state.rows ++ more) ≡ Some row =
-        is_row_at (length state.rows + i + 1) (state.rows ++ more) row (λ z. omega arith)
-        (subst (λ j. slice_get (state.rows ++ more) j ≡ Some row) before (slice_get-behind state.rows more i ∙ found)) in
+    is_row_at (length state.rows + i + 1) (state.rows ++ more) row (λ z. omega arith)
+    (subst (λ j. slice_get (state.rows ++ more) j ≡ Some row) before (slice_get-behind state.rows more i ∙ found)) in
     subst (λ p. row_at p (state.rows ++ more) ≡ Some row) (sym (order.placed (length state.rows + i + 1) row place)) place
 
 -- rows in order stay so with rows that may follow one after another
