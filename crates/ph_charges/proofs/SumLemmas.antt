@@ -254,7 +254,7 @@ decline_keeps state account object intent batch behind sound began front untouch
     untouched
 
 -- a capture of the charge of a row is that of its version
-capture_is : (rows : List Row) (n amount : ℕ) (batch : BatchState) (row : Row) (charge : Charge) → latest_of n batch.rows ≡ None
+pub capture_is : (rows : List Row) (n amount : ℕ) (batch : BatchState) (row : Row) (charge : Charge) → latest_of n batch.rows ≡ None
     → latest_of n rows ≡ Some row → row.item ≡ item.Charge charge
     → capture_of rows n amount batch ≡ with_announced (with_captured row.account n charge amount batch) event.ChargeCaptured n
 capture_is rows n amount batch row charge none latest is =

@@ -8,9 +8,9 @@ use Rattle.ph_rows.specs.declared.attempts.Attempt.{Attempt}
 use Rattle.ph_rows.specs.declared.attempts.AttemptState.TheVariants as state
 use Rattle.ph_rows.specs.declared.intents.Intent.{Intent}
 use Rattle.ph_rows.specs.declared.orders.Order.{Order}
-use Rattle.ph_rows.specs.declared.items.Item.{Item}
 use Rattle.ph_rows.specs.declared.items.Item.TheVariants as item
 use Rattle.ph_rows.specs.Batches.{BatchState, last_place, with_row}
+use Rattle.ph_rows.specs.Items.{attempt_in}
 use Rattle.ph_rows.specs.Rows.{latest_of}
 use Rattle.ph_intents.specs.Versions.{with_version}
 
@@ -43,13 +43,6 @@ with_attempt account object intent method batch =
 abbrev pub attempted : ℕ → ℕ → Intent → Method → BatchState → Outcome
 attempted account object intent method batch =
     Adds object (with_attempt account object intent method (with_version account object intent batch))
-
--- the attempt that an item is a version of
-abbrev pub attempt_in : Item → Option Attempt
-attempt_in (item.Account account) = None
-attempt_in (item.Intent intent) = None
-attempt_in (item.Attempt attempt) = Some attempt
-attempt_in (item.Event event) = None
 
 -- the order of an attempt, where there is one
 abbrev pub order_of : Option Attempt → Option Order

@@ -1,7 +1,8 @@
 -- The capture.
-use Rattle.std.specs.Prelude.{ℕ, ◌==◌, ◌||◌, nat_lt, if◌then◌else◌, List, Option, unwrap_or, codes}
+use Rattle.std.specs.Prelude.{ℕ, ◌==◌, ◌||◌, nat_lt, if◌then◌else◌, List, Option, None, Some, unwrap_or, codes}
 use Rattle.ph_calls.specs.declared.call.CaptureIntent.{CaptureIntent}
 use Rattle.ph_calls.specs.Outcomes.{Outcome}
+use Rattle.ph_charges.specs.Captures as captures
 use Rattle.ph_rows.specs.declared.rows.Row.{Row}
 use Rattle.ph_rows.specs.declared.intents.Intent.{Intent}
 use Rattle.ph_rows.specs.declared.intents.IntentStatus.{IntentStatus}
@@ -20,19 +21,25 @@ received_intent amount intent status = record intent {
   amount_received = amount;
 }
 
--- the capture of an amount: above 0, and no more than can be captured
-abbrev pub capture_amount : ℕ → ℕ → BatchState → ℕ → Intent → IntentStatus → Outcome
-capture_amount account amount batch object intent status =
+-- the batch with the capture of an amount of a payment intent's charge, where it has one
+abbrev pub with_charge_captured : List Row → ℕ → Option ℕ → BatchState → BatchState
+with_charge_captured rows amount None batch = batch
+with_charge_captured rows amount (Some charge) batch = captures.capture_of rows charge amount batch
+
+-- the capture of an amount, above 0 and no more than can be captured: of the charge, and of the payment intent
+abbrev pub capture_amount : List Row → ℕ → ℕ → BatchState → ℕ → Intent → IntentStatus → Outcome
+capture_amount rows account amount batch object intent status =
     if amount == 0 || nat_lt intent.amount_capturable amount then invalid_value (codes "amount_to_capture")
-    else adds_told account object (received_intent amount intent status) event.IntentSucceeded batch
+    else adds_told account object (received_intent amount intent status) event.IntentSucceeded
+    (with_charge_captured rows amount intent.latest_charge batch)
 
 -- the capture of a payment intent, where its status allows it: of the amount named, or of all that can be captured
-abbrev pub capture_of : ℕ → Option ℕ → BatchState → ℕ → Intent → Outcome
-capture_of account amount batch object intent =
-    if_allowed (λ status. capture_amount account (unwrap_or amount intent.amount_capturable) batch object intent status)
+abbrev pub capture_of : List Row → ℕ → Option ℕ → BatchState → ℕ → Intent → Outcome
+capture_of rows account amount batch object intent =
+    if_allowed (λ status. capture_amount rows account (unwrap_or amount intent.amount_capturable) batch object intent status)
     (next_status intent.status step.Capture)
 
 -- the capture of the payment intent that the path names
 abbrev pub capture_outcome : List Row → ℕ → CaptureIntent → BatchState → Outcome
 capture_outcome rows account call batch =
-    made_at (λ object intent. capture_of account call.amount_to_capture batch object intent) rows account call.id
+    made_at (λ object intent. capture_of rows account call.amount_to_capture batch object intent) rows account call.id

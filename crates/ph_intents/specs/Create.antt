@@ -33,6 +33,7 @@ new_intent call status = record {
   payment_method = call.payment_method;
   cancellation_reason = None;
   last_payment_error = None;
+  latest_charge = None;
   description = call.description;
   metadata = first_metadata call.metadata;
   transfer_group = call.transfer_group;

@@ -10,8 +10,9 @@ use Rattle.ph_calls.specs.Outcomes.{Outcome, Refuses, Adds}
 use Rattle.ph_kinds.specs.declared.metadata.Meta.{Meta}
 use Rattle.ph_kinds.specs.declared.metadata.Meta.TheVariants as meta
 use Rattle.ph_rows.specs.declared.rows.Row.{Row}
-use Rattle.ph_rows.specs.Batches.{BatchState, empty_batch, made_rows}
-use Rattle.ph_rows.specs.Sound.{IsSound, AllMayFollow}
+use Rattle.ph_rows.specs.Batches.{BatchState, empty_batch}
+use Rattle.ph_rows.specs.Entering.{MayBeEntered}
+use Rattle.ph_rows.specs.Sound.{IsSound}
 use Rattle.ph_rows.specs.Views.{ViewState}
 use Rattle.ph_rows.specs.Weights.{with_text, method_text}
 use Rattle.ph_intents.specs.Settle.{settle_outcome}
@@ -49,30 +50,29 @@ confirm_texts call = with_text (method_text call.payment_method) []
 abbrev pub no_texts : {C : Type 0} → C → List (List ℕ)
 no_texts call = []
 
--- an entry may be made after the rows of a view, under an idempotency key or none: the rows are sound, sixteen digits
--- number the three rows more that an operation adds at most, and the key is UTF-8
-pub record IsReady (state : ViewState) (key : Option (List ℕ)) : Type 0 where
+-- an entry may be made after the rows of a view: they are sound, and sixteen digits number sixteen rows more, which is
+-- above what any operation adds
+pub record IsReady (state : ViewState) : Type 0 where
   pub sound : IsSound state
-  pub room : length state.rows + 3 < 10 ^ 16
-  pub text : AreUtf8 (with_text key [])
+  pub room : length state.rows + 16 < 10 ^ 16
 
 -- the empty batch of the entry of a place, after the rows of a view
 abbrev pub batch_after : ViewState → ℕ → BatchState
 batch_after state entry = empty_batch (length state.rows) state.time entry
 
--- what an outcome adds may be entered, the object rows and the event rows under a key
-abbrev pub MayBeEntered : ViewState → Option (List ℕ) → Outcome → Type 0
-MayBeEntered state key (Refuses error) = Unit {0}
-MayBeEntered state key (Adds object batch) = AllMayFollow state (made_rows key batch)
+-- what an outcome adds may be entered
+abbrev pub AddsSound : ViewState → Outcome → Type 0
+AddsSound state (Refuses error) = Unit {0}
+AddsSound state (Adds object batch) = MayBeEntered state batch
 
 -- whatever stands, what a call adds may be entered, where its texts are UTF-8
 abbrev pub KeepsSound : {C : Type 0} → (C → List (List ℕ)) → (List Row → ℕ → C → BatchState → Outcome) → Type 0
 KeepsSound {C} texts outcome =
-    (state : ViewState) (entry account : ℕ) (key : Option (List ℕ)) (call : C) → IsReady state key
-    → AreUtf8 (texts call) → MayBeEntered state key (outcome state.rows account call (batch_after state entry))
+    (state : ViewState) (entry account : ℕ) (call : C) → IsReady state → AreUtf8 (texts call)
+    → AddsSound state (outcome state.rows account call (batch_after state entry))
 
 -- whatever stands, what a ruling adds may be entered
 abbrev pub SettleKeepsSound : Type 0
 SettleKeepsSound =
-    (state : ViewState) (entry attempt : ℕ) (ruling : Ruling) (key : Option (List ℕ)) → IsReady state key
-    → MayBeEntered state key (settle_outcome state.rows attempt ruling (batch_after state entry))
+    (state : ViewState) (entry attempt : ℕ) (ruling : Ruling) → IsReady state
+    → AddsSound state (settle_outcome state.rows attempt ruling (batch_after state entry))

@@ -1,15 +1,15 @@
 -- The steps that the operations share, each with its refusal.
 use Rattle.std.specs.Prelude.{◌≡◌, ℕ, List, Option, None, Some, codes}
+use Rattle.ph_base.specs.declared.ids.Kind.TheVariants as kind
 use Rattle.ph_calls.specs.Outcomes.{Outcome, Refuses}
 use Rattle.ph_errors.specs.Table.{Problem, error_of, NoSuchObject, UnexpectedState, InvalidValue}
 use Rattle.ph_errors.specs.declared.refusal.Refusal.{Refusal}
 use Rattle.ph_errors.specs.declared.refusal.Refusal.TheVariants as refusal
 use Rattle.ph_rows.specs.declared.rows.Row.{Row}
-use Rattle.ph_rows.specs.declared.items.Item.{Item}
-use Rattle.ph_rows.specs.declared.items.Item.TheVariants as item
 use Rattle.ph_rows.specs.declared.intents.Intent.{Intent}
 use Rattle.ph_rows.specs.declared.intents.IntentStatus.{IntentStatus}
-use Rattle.ph_intents.specs.Finding.{intent_named}
+use Rattle.ph_rows.specs.Items.{intent_in}
+use Rattle.ph_rows.specs.Names.{owned_named}
 
 -- the path names no payment intent of the account
 abbrev pub no_such_intent : Outcome
@@ -23,13 +23,6 @@ unexpected_state = Refuses (error_of UnexpectedState)
 abbrev pub invalid_value : List ℕ → Outcome
 invalid_value param = Refuses (error_of (InvalidValue param))
 
--- the version of a payment intent that an item is
-abbrev pub intent_in : Item → Option Intent
-intent_in (item.Account account) = None
-intent_in (item.Intent intent) = Some intent
-intent_in (item.Attempt attempt) = None
-intent_in (item.Event event) = None
-
 -- what an operation makes of a version of a payment intent, where there is one
 abbrev pub made_of : (Intent → Outcome) → Option Intent → Outcome
 made_of operation None = no_such_intent
@@ -42,7 +35,7 @@ made_of_row operation (Some row) = made_of (operation row.object) (intent_in row
 
 -- what an operation makes of the payment intent of the account that a path names
 abbrev pub made_at : (ℕ → Intent → Outcome) → List Row → ℕ → List ℕ → Outcome
-made_at operation rows account text = made_of_row operation (intent_named rows account text)
+made_at operation rows account text = made_of_row operation (owned_named rows account kind.Intent text)
 
 -- what is done with the status to which a step leads, where it is allowed
 abbrev pub if_allowed : (IntentStatus → Outcome) → Option IntentStatus → Outcome

@@ -1,7 +1,7 @@
 //! Attempts: the one that a call begins, and the one that a batch begins.
 ghost use Rattle.std.specs.Prelude.{◌≡◌, OnOk};
 ghost use Rattle.ph_calls.specs.Outcomes.{Gives};
-ghost use Rattle.ph_intents.specs.Attempts.{attempt_in, attempted, begun, with_new_attempt};
+ghost use Rattle.ph_intents.specs.Attempts.{attempted, begun, with_new_attempt};
 
 use crate::versions::add_version;
 use ph_base::{Method, NoMemory};
@@ -58,22 +58,12 @@ pub fn add_attempted(
     Ok(object)
 }
 
-/// The attempt that an item is a version of. None exactly where it is another object's.
-pub fn attempt_in(item: &Item) -> Option<Attempt>
-    ensures { result ≡ attempt_in item.now }
-{
-    match item {
-        Item::Attempt(attempt) => Some(*attempt),
-        Item::Account(_) | Item::Intent(_) | Item::Event(_) => None,
-    }
-}
-
 /// The order of the attempt that the last row of a batch begins. None exactly where it begins none.
 pub fn begun(batch: &Batch) -> Option<Order>
     ensures { result ≡ begun batch.now }
 {
     match batch.latest(batch.count()) {
-        Some(row) => match attempt_in(&row.item) {
+        Some(row) => match row.item.attempt() {
             Some(attempt) => Some(attempt.order),
             None => None,
         },

@@ -4,14 +4,13 @@ ghost use Rattle.ph_calls.specs.Outcomes.{Gives};
 ghost use Rattle.ph_intents.specs.Authenticate.{authenticate_of, authenticate_outcome, authenticated_intent, fail_authentication_outcome, fail_of, failed_intent};
 
 use crate::attempts::add_attempted;
-use crate::finding::intent_row;
-use crate::refusals::{intent_in, no_such_intent, unexpected_state};
+use crate::refusals::{no_such_intent, unexpected_state};
 use crate::statuses::{Step, next_status};
 use crate::versions::tell_version;
-use ph_base::{Method, NoMemory};
+use ph_base::{Kind, Method, NoMemory};
 use ph_calls::Authenticate;
 use ph_errors::Refusal;
-use ph_rows::{Batch, EventKind, Intent, IntentStatus, PaymentError, View};
+use ph_rows::{Batch, EventKind, Intent, IntentStatus, PaymentError, View, owned_named};
 use std::alloc::Global;
 
 // A payment intent whose customer has authenticated: its payment method stays.
@@ -57,10 +56,10 @@ pub fn authenticate<V: View>(
 ) -> Result<u64, Refusal>
     ensures { Gives (authenticate_outcome (V.state view.now).rows account call.now batch.old) result batch.new }
 {
-    let Some(row) = intent_row(view, account, call.id.as_slice()) else {
+    let Some(row) = owned_named(view, account, Kind::Intent, call.id.as_slice()) else {
         return Err(no_such_intent(alloc));
     };
-    let Some(intent) = intent_in(&row.item) else {
+    let Some(intent) = row.item.intent() else {
         return Err(no_such_intent(alloc));
     };
     authenticate_intent(alloc, account, row.object, intent, batch)
@@ -115,10 +114,10 @@ pub fn fail_authentication<V: View>(
 ) -> Result<u64, Refusal>
     ensures { Gives (fail_authentication_outcome (V.state view.now).rows account call.now batch.old) result batch.new }
 {
-    let Some(row) = intent_row(view, account, call.id.as_slice()) else {
+    let Some(row) = owned_named(view, account, Kind::Intent, call.id.as_slice()) else {
         return Err(no_such_intent(alloc));
     };
-    let Some(intent) = intent_in(&row.item) else {
+    let Some(intent) = row.item.intent() else {
         return Err(no_such_intent(alloc));
     };
     fail_intent(alloc, account, row.object, intent, batch)

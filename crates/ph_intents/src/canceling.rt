@@ -3,15 +3,14 @@ ghost use Rattle.std.specs.Prelude.{◌≡◌, IfOk};
 ghost use Rattle.ph_calls.specs.Outcomes.{Gives};
 ghost use Rattle.ph_intents.specs.Cancel.{cancel_of, cancel_outcome, canceled_intent};
 
-use crate::finding::intent_row;
-use crate::refusals::{intent_in, no_such_intent, unexpected_state};
+use crate::refusals::{no_such_intent, unexpected_state};
 use crate::statuses::{Step, next_status};
 use crate::versions::tell_version;
-use ph_base::NoMemory;
+use ph_base::{Kind, NoMemory};
 use ph_calls::CancelIntent;
 use ph_errors::Refusal;
 use ph_money::Amount;
-use ph_rows::{Batch, CancellationReason, EventKind, Intent, IntentStatus, View};
+use ph_rows::{Batch, CancellationReason, EventKind, Intent, IntentStatus, View, owned_named};
 use std::alloc::Global;
 
 // A payment intent that is canceled, for a reason or none.
@@ -62,10 +61,10 @@ pub fn cancel<V: View>(
 ) -> Result<u64, Refusal>
     ensures { Gives (cancel_outcome (V.state view.now).rows account call.now batch.old) result batch.new }
 {
-    let Some(row) = intent_row(view, account, call.id.as_slice()) else {
+    let Some(row) = owned_named(view, account, Kind::Intent, call.id.as_slice()) else {
         return Err(no_such_intent(alloc));
     };
-    let Some(intent) = intent_in(&row.item) else {
+    let Some(intent) = row.item.intent() else {
         return Err(no_such_intent(alloc));
     };
     let reason = call.cancellation_reason;

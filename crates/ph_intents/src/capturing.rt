@@ -1,17 +1,16 @@
 //! The capture.
-ghost use Rattle.std.specs.Prelude.{◌≡◌, ◌==◌, ◌||◌, nat_lt, IfOk};
+ghost use Rattle.std.specs.Prelude.{◌≡◌, ◌==◌, ◌||◌, nat_lt, IfOk, OnOk};
 ghost use Rattle.ph_calls.specs.Outcomes.{Gives};
-ghost use Rattle.ph_intents.specs.Capture.{capture_amount, capture_of, capture_outcome, received_intent};
+ghost use Rattle.ph_intents.specs.Capture.{capture_amount, capture_of, capture_outcome, received_intent, with_charge_captured};
 
-use crate::finding::intent_row;
-use crate::refusals::{intent_in, invalid_value, no_such_intent, unexpected_state};
+use crate::refusals::{invalid_value, no_such_intent, unexpected_state};
 use crate::statuses::{Step, next_status};
 use crate::versions::tell_version;
-use ph_base::NoMemory;
+use ph_base::{Kind, NoMemory};
 use ph_calls::CaptureIntent;
 use ph_errors::Refusal;
 use ph_money::Amount;
-use ph_rows::{Batch, EventKind, Intent, IntentStatus, View};
+use ph_rows::{Batch, EventKind, Intent, IntentStatus, View, owned_named};
 use std::alloc::Global;
 
 /// A payment intent of which so much is received; the rest can't be captured any more.
@@ -37,9 +36,26 @@ fn is_out_of_bounds(amount: Amount, capturable: Amount) -> bool
     amount.units() == 0 || amount.units() > capturable.units()
 }
 
-// The capture of an amount.
-fn capture_amount(
+// Adds the capture of an amount of a payment intent's charge, where it has one.
+fn capture_charge<V: View>(
     alloc: Global,
+    view: &V,
+    amount: Amount,
+    charge: Option<u64>,
+    batch: &mut Batch,
+) -> Result<(), NoMemory>
+    ensures { OnOk result (batch.new ≡ with_charge_captured (V.state view.now).rows amount charge batch.old) }
+{
+    match charge {
+        Some(charge) => ph_charges::capture(alloc, view, charge, amount, batch),
+        None => Ok(()),
+    }
+}
+
+// The capture of an amount.
+fn capture_amount<V: View>(
+    alloc: Global,
+    view: &V,
     account: u64,
     amount: Amount,
     object: u64,
@@ -47,38 +63,40 @@ fn capture_amount(
     status: IntentStatus,
     batch: &mut Batch,
 ) -> Result<u64, Refusal>
-    ensures { Gives (capture_amount account amount batch.old object intent.now status) result batch.new }
+    ensures { Gives (capture_amount (V.state view.now).rows account amount batch.old object intent.now status) result batch.new }
 {
     if is_out_of_bounds(amount, intent.amount_capturable) {
         return Err(invalid_value(alloc, b"amount_to_capture"));
     }
+    capture_charge(alloc, view, amount, intent.latest_charge, batch)?;
     let received = received_intent(alloc, amount, intent, status)?;
     tell_version(account, object, received, EventKind::IntentSucceeded, batch)?;
     Ok(object)
 }
 
 // The capture of a payment intent, where its status allows it.
-fn capture_intent(
+fn capture_intent<V: View>(
     alloc: Global,
+    view: &V,
     account: u64,
     amount: Option<Amount>,
     object: u64,
     intent: &Intent,
     batch: &mut Batch,
 ) -> Result<u64, Refusal>
-    ensures { Gives (capture_of account amount batch.old object intent.now) result batch.new }
+    ensures { Gives (capture_of (V.state view.now).rows account amount batch.old object intent.now) result batch.new }
 {
     match next_status(intent.status, Step::Capture) {
         Some(status) => {
             let amount = amount.unwrap_or(intent.amount_capturable);
-            capture_amount(alloc, account, amount, object, intent, status, batch)
+            capture_amount(alloc, view, account, amount, object, intent, status, batch)
         }
         None => Err(unexpected_state(alloc)),
     }
 }
 
-/// Captures the amount that the call names of the payment intent that the path names, or all that can be captured;
-/// what is left can't be captured any more. It is refused where the account has no such payment intent, where its
+/// Captures the amount that the call names of the payment intent that the path names, or all that can be captured: it
+/// is captured of the payment intent's charge, and what is left can't be captured any more. It is refused where the account has no such payment intent, where its
 /// status doesn't allow it, and for an amount of 0 or of more than can be captured. The answer is its number.
 pub fn capture<V: View>(
     alloc: Global,
@@ -89,12 +107,12 @@ pub fn capture<V: View>(
 ) -> Result<u64, Refusal>
     ensures { Gives (capture_outcome (V.state view.now).rows account call.now batch.old) result batch.new }
 {
-    let Some(row) = intent_row(view, account, call.id.as_slice()) else {
+    let Some(row) = owned_named(view, account, Kind::Intent, call.id.as_slice()) else {
         return Err(no_such_intent(alloc));
     };
-    let Some(intent) = intent_in(&row.item) else {
+    let Some(intent) = row.item.intent() else {
         return Err(no_such_intent(alloc));
     };
     let amount = call.amount_to_capture;
-    capture_intent(alloc, account, amount, row.object, intent, batch)
+    capture_intent(alloc, view, account, amount, row.object, intent, batch)
 }

@@ -5,13 +5,12 @@ ghost use Rattle.ph_calls.specs.Outcomes.{Gives};
 ghost use Rattle.ph_intents.specs.Confirm.{confirm_of, confirm_outcome, confirm_with, paying_intent};
 
 use crate::attempts::add_attempted;
-use crate::finding::intent_row;
-use crate::refusals::{intent_in, no_such_intent, unexpected_state};
+use crate::refusals::{no_such_intent, unexpected_state};
 use crate::statuses::{Step, next_status};
-use ph_base::NoMemory;
+use ph_base::{Kind, NoMemory};
 use ph_calls::ConfirmIntent;
 use ph_errors::Refusal;
-use ph_rows::{Batch, Intent, IntentStatus, PaymentMethod, View};
+use ph_rows::{Batch, Intent, IntentStatus, PaymentMethod, View, owned_named};
 use std::alloc::Global;
 
 // A payment intent that a payment method is to pay: an earlier failure is forgotten.
@@ -83,10 +82,10 @@ pub fn confirm<V: View>(
 ) -> Result<u64, Refusal>
     ensures { Gives (confirm_outcome (V.state view.now).rows account call.now batch.old) result batch.new }
 {
-    let Some(row) = intent_row(view, account, call.id.as_slice()) else {
+    let Some(row) = owned_named(view, account, Kind::Intent, call.id.as_slice()) else {
         return Err(no_such_intent(alloc));
     };
-    let Some(intent) = intent_in(&row.item) else {
+    let Some(intent) = row.item.intent() else {
         return Err(no_such_intent(alloc));
     };
     let named = &call.payment_method;

@@ -4,14 +4,15 @@ ghost use Rattle.ph_calls.specs.Outcomes.{Gives};
 ghost use Rattle.ph_intents.specs.Create.{create_confirmed_outcome, create_outcome, created_with, new_intent};
 
 use crate::attempts::add_attempt;
-use crate::copies::{copy_method, copy_text};
 use crate::metadata::first_metadata;
 use crate::refusals::parameter_missing;
 use ph_base::{Method, NoMemory};
 use ph_calls::CreateIntent;
 use ph_errors::Refusal;
 use ph_money::Amount;
-use ph_rows::{Batch, CaptureMethod, EventKind, Intent, IntentStatus, Item, View};
+use ph_rows::{
+    Batch, CaptureMethod, EventKind, Intent, IntentStatus, Item, View, copy_method, copy_text,
+};
 use std::alloc::Global;
 
 /// The first version of a payment intent, in a status: each field from the call, or its default.
@@ -32,6 +33,7 @@ pub fn new_intent(
         payment_method: copy_method(alloc, call.payment_method.as_ref())?,
         cancellation_reason: None,
         last_payment_error: None,
+        latest_charge: None,
         description: copy_text(alloc, call.description.as_ref())?,
         metadata: first_metadata(alloc, call.metadata.as_ref())?,
         transfer_group: copy_text(alloc, call.transfer_group.as_ref())?,

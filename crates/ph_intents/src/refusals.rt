@@ -1,11 +1,9 @@
 //! The refusals that the operations share.
 ghost use Rattle.std.specs.Prelude.{◌≡◌, codes};
-ghost use Rattle.std.specs.Option.{option_copied};
 ghost use Rattle.ph_errors.specs.Table.{AmountTooSmall, InvalidValue, NoSuchObject, ParameterMissing, UnexpectedState};
-ghost use Rattle.ph_intents.specs.Refusals.{IsRefusal, intent_in};
+ghost use Rattle.ph_intents.specs.Refusals.{IsRefusal};
 
 use ph_errors::{ApiError, Refusal};
-use ph_rows::{Intent, Item};
 use std::alloc::Global;
 
 /// The path names no payment intent of the account.
@@ -41,14 +39,4 @@ pub fn amount_too_small(alloc: Global) -> Refusal
     ensures { IsRefusal AmountTooSmall result }
 {
     Refusal::of(ApiError::amount_too_small(alloc))
-}
-
-/// The version of a payment intent that an item is. None exactly where it is another object's.
-pub fn intent_in(item: &Item) -> Option<&Intent>
-    ensures { option_copied result ≡ intent_in item.now }
-{
-    match item {
-        Item::Intent(intent) => Some(intent),
-        Item::Account(_) | Item::Attempt(_) | Item::Event(_) => None,
-    }
 }

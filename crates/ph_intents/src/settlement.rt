@@ -1,14 +1,13 @@
 //! What a ruling of the acquirer makes of an attempt and its payment intent.
 ghost use Rattle.std.specs.Prelude.{◌≡◌, IfOk, OnOk};
 ghost use Rattle.ph_calls.specs.Outcomes.{Adds};
-ghost use Rattle.ph_intents.specs.Settle.{approved_event, approved_intent, held_intent, settle_both, settle_outcome, settled_attempt, settled_event, settled_intent, settled_state, with_settled};
+ghost use Rattle.ph_intents.specs.Settle.{approved_event, approved_intent, charge_after, held_intent, ruled_intent, settle_outcome, settled_attempt, settled_event, settled_intent, settled_state, with_charge, with_ruling};
 
-use crate::attempts::attempt_in;
 use crate::authentication::failed_intent;
 use crate::capturing::received_intent;
-use crate::refusals::intent_in;
 use crate::versions::tell_version;
 use ph_base::{NoMemory, Ruling};
+use ph_charges::{approve, decline};
 use ph_rows::{
     Attempt, AttemptState, Batch, CaptureMethod, EventKind, Intent, IntentStatus, Item,
     PaymentError, View,
@@ -50,16 +49,16 @@ fn approved_intent(alloc: Global, intent: &Intent) -> Result<Intent, NoMemory>
 
 // A payment intent whose customer has to authenticate.
 fn challenged_intent(alloc: Global, intent: &Intent) -> Result<Intent, NoMemory>
-    ensures { IfOk result (λ challenged. challenged ≡ settled_intent Ruling.Challenge intent.now) }
+    ensures { IfOk result (λ challenged. challenged ≡ ruled_intent Ruling.Challenge intent.now) }
 {
     let mut challenged = intent.copy(alloc)?;
     challenged.status = IntentStatus::RequiresAction;
     Ok(challenged)
 }
 
-// A payment intent after a ruling on its attempt.
-fn settled_intent(alloc: Global, ruling: Ruling, intent: &Intent) -> Result<Intent, NoMemory>
-    ensures { IfOk result (λ settled. settled ≡ settled_intent ruling intent.now) }
+// What a ruling says of a payment intent itself.
+fn ruled_intent(alloc: Global, ruling: Ruling, intent: &Intent) -> Result<Intent, NoMemory>
+    ensures { IfOk result (λ ruled. ruled ≡ ruled_intent ruling intent.now) }
 {
     match ruling {
         Ruling::Approved => approved_intent(alloc, intent),
@@ -68,6 +67,40 @@ fn settled_intent(alloc: Global, ruling: Ruling, intent: &Intent) -> Result<Inte
             failed_intent(alloc, error, intent, IntentStatus::RequiresPaymentMethod)
         }
         Ruling::Challenge => challenged_intent(alloc, intent),
+    }
+}
+
+// A payment intent after a ruling on its attempt, with its latest charge.
+fn settled_intent(
+    alloc: Global,
+    ruling: Ruling,
+    charge: Option<u64>,
+    intent: &Intent,
+) -> Result<Intent, NoMemory>
+    ensures { IfOk result (λ settled. settled ≡ settled_intent ruling charge intent.now) }
+{
+    let mut settled = ruled_intent(alloc, ruling, intent)?;
+    settled.latest_charge = charge;
+    Ok(settled)
+}
+
+// Adds the charge that a ruling makes of a payment intent. The answer is the payment intent's latest charge, which a
+// challenge leaves as it was.
+fn add_charge(
+    alloc: Global,
+    ruling: Ruling,
+    account: u64,
+    object: u64,
+    intent: &Intent,
+    batch: &mut Batch,
+) -> Result<Option<u64>, NoMemory>
+    ensures latest { IfOk result (λ charge. charge ≡ charge_after ruling intent.now batch.old) }
+    ensures batch { OnOk result (batch.new ≡ with_charge ruling account object intent.now batch.old) }
+{
+    match ruling {
+        Ruling::Approved => Ok(Some(approve(alloc, account, object, intent, batch)?)),
+        Ruling::Declined(_) => Ok(Some(decline(alloc, account, object, intent, batch)?)),
+        Ruling::Challenge => Ok(intent.latest_charge),
     }
 }
 
@@ -104,10 +137,27 @@ fn settled_attempt(ruling: Ruling, attempt: Attempt) -> Attempt
     }
 }
 
+// Adds what a ruling makes of a payment intent: its charge, and a further version of it, which is announced.
+fn rule(
+    alloc: Global,
+    ruling: Ruling,
+    account: u64,
+    object: u64,
+    intent: &Intent,
+    batch: &mut Batch,
+) -> Result<(), NoMemory>
+    ensures { OnOk result (batch.new ≡ with_ruling ruling account object intent.now batch.old) }
+{
+    let charge = add_charge(alloc, ruling, account, object, intent, batch)?;
+    let settled = settled_intent(alloc, ruling, charge, intent)?;
+    let sort = settled_event(ruling, intent.capture_method);
+    tell_version(account, object, settled, sort, batch)
+}
+
 /// Adds what a ruling makes of an attempt and of its payment intent, and announces it: approved, the payment intent
-/// is captured at once or waits for its capture; declined, it waits for another payment method and tells why;
-/// challenged, it waits for its customer. The answer is the payment intent's number; where there is no such attempt
-/// or payment intent it is 0, and nothing is added.
+/// has a charge, which is captured at once or waits for its capture; declined, it has a failed charge, waits for
+/// another payment method and tells why; challenged, it waits for its customer. The answer is the payment intent's
+/// number; where there is no such attempt or payment intent it is 0, and nothing is added.
 pub fn settle<V: View>(
     alloc: Global,
     view: &V,
@@ -120,19 +170,17 @@ pub fn settle<V: View>(
     let Some(row) = view.latest(attempt) else {
         return Ok(0);
     };
-    let Some(attempt) = attempt_in(&row.item) else {
+    let Some(attempt) = row.item.attempt() else {
         return Ok(0);
     };
     let Some(intent_row) = view.latest(attempt.intent) else {
         return Ok(0);
     };
-    let Some(intent) = intent_in(&intent_row.item) else {
+    let Some(intent) = intent_row.item.intent() else {
         return Ok(0);
     };
-    let settled = Item::Attempt(settled_attempt(ruling, attempt));
+    let settled = Item::Attempt(settled_attempt(ruling, *attempt));
     batch.change(row.object, row.account, settled)?;
-    let version = settled_intent(alloc, ruling, intent)?;
-    let sort = settled_event(ruling, intent.capture_method);
-    tell_version(intent_row.account, intent_row.object, version, sort, batch)?;
+    rule(alloc, ruling, intent_row.account, intent_row.object, intent, batch)?;
     Ok(intent_row.object)
 }

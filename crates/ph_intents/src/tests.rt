@@ -10,3 +10,4 @@ mod script;
 mod shown;
 mod statuses;
 mod updating;
+mod worked;

@@ -5,17 +5,16 @@ ghost use Rattle.ph_calls.specs.Outcomes.{Gives};
 ghost use Rattle.ph_intents.specs.Update.{step_by, step_of, update_of, update_outcome, update_with, updated_intent};
 
 use crate::copies::{copy_method_or, copy_text_or};
-use crate::finding::intent_row;
 use crate::metadata::merged_metadata;
 use crate::refusals::{
-    amount_too_small, intent_in, invalid_value, no_such_intent, unexpected_state,
+    amount_too_small, invalid_value, no_such_intent, unexpected_state,
 };
 use crate::statuses::{Step, next_status};
 use crate::versions::add_version;
-use ph_base::NoMemory;
+use ph_base::{Kind, NoMemory};
 use ph_calls::UpdateIntent;
 use ph_errors::Refusal;
-use ph_rows::{Batch, Intent, IntentStatus, View};
+use ph_rows::{Batch, Intent, IntentStatus, View, owned_named};
 use std::alloc::Global;
 
 // The greatest number of keys.
@@ -67,6 +66,7 @@ fn updated_intent(
         )?,
         cancellation_reason: intent.cancellation_reason,
         last_payment_error: intent.last_payment_error,
+        latest_charge: intent.latest_charge,
         description: copy_text_or(
             alloc,
             call.description.as_ref(),
@@ -133,10 +133,10 @@ pub fn update<V: View>(
 ) -> Result<u64, Refusal>
     ensures { Gives (update_outcome (V.state view.now).rows account call.now batch.old) result batch.new }
 {
-    let Some(row) = intent_row(view, account, call.id.as_slice()) else {
+    let Some(row) = owned_named(view, account, Kind::Intent, call.id.as_slice()) else {
         return Err(no_such_intent(alloc));
     };
-    let Some(intent) = intent_in(&row.item) else {
+    let Some(intent) = row.item.intent() else {
         return Err(no_such_intent(alloc));
     };
     update_intent(alloc, account, call, row.object, intent, batch)

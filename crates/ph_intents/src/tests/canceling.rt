@@ -36,8 +36,8 @@ fn a_held_payment(rt: HostRuntime) -> Result<(), Fail> {
         create - amount=2000&currency=usd&payment_method=pm_card_visa&capture_method=manual => 2: 2 requires_confirmation 2000 usd method=pm_card_visa; payment_intent.created of 2
         confirm pi_0000000000000002 => 2 asks 5: 2 processing 2000 usd method=pm_card_visa; 5 live 2000 usd visa reference=5 intent=2 opener=1002
         cancel pi_0000000000000002 => 400 payment_intent_unexpected_state -
-        settle 5 approved => 2: 5 approved 2000 usd visa reference=5 intent=2 opener=1002; 2 requires_capture 2000 usd capturable=2000 method=pm_card_visa; payment_intent.amount_capturable_updated of 2
-        cancel pi_0000000000000002 cancellation_reason=requested_by_customer => 2: 2 canceled 2000 usd method=pm_card_visa reason=requested_by_customer; payment_intent.canceled of 2
+        settle 5 approved => 2: 5 approved 2000 usd visa reference=5 intent=2 opener=1002; 7 charge succeeded 2000 usd intent=2 method=pm_card_visa; 2 requires_capture 2000 usd capturable=2000 method=pm_card_visa charge=7; charge.succeeded of 7; payment_intent.amount_capturable_updated of 2
+        cancel pi_0000000000000002 cancellation_reason=requested_by_customer => 2: 2 canceled 2000 usd method=pm_card_visa reason=requested_by_customer charge=7; payment_intent.canceled of 2
     ";
     each_comes_to(&rt, rt.alloc(), &mut view, 1, script);
     Ok(())
@@ -49,8 +49,8 @@ fn a_failed_payment(rt: HostRuntime) -> Result<(), Fail> {
     let mut view = platform(rt.alloc())?;
     let script = "
         begin - amount=2000&currency=usd&payment_method=pm_card_chargeDeclined => 2 asks 3: 2 processing 2000 usd method=pm_card_chargeDeclined; 3 live 2000 usd declined reference=3 intent=2 opener=1001; payment_intent.created of 2
-        settle 3 generic => 2: 3 declined 2000 usd declined reference=3 intent=2 opener=1001; 2 requires_payment_method 2000 usd error=generic; payment_intent.payment_failed of 2
-        cancel pi_0000000000000002 cancellation_reason=abandoned => 2: 2 canceled 2000 usd reason=abandoned error=generic; payment_intent.canceled of 2
+        settle 3 generic => 2: 3 declined 2000 usd declined reference=3 intent=2 opener=1001; 6 charge failed 2000 usd intent=2 method=pm_card_chargeDeclined; 2 requires_payment_method 2000 usd error=generic charge=6; charge.failed of 6; payment_intent.payment_failed of 2
+        cancel pi_0000000000000002 cancellation_reason=abandoned => 2: 2 canceled 2000 usd reason=abandoned error=generic charge=6; payment_intent.canceled of 2
     ";
     each_comes_to(&rt, rt.alloc(), &mut view, 1, script);
     Ok(())

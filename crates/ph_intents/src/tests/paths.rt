@@ -1,7 +1,6 @@
 //! Paths that name a payment intent, and paths that name nothing.
 
 use super::script::{each_comes_to, platform};
-use crate::intent_row;
 use std::test::Fail;
 
 // Numbers of other objects, of none, ids of other kinds, and texts that are no ids.
@@ -58,25 +57,5 @@ fn another_account(rt: HostRuntime) -> Result<(), Fail> {
     each_comes_to(&rt, alloc, &mut view, 1, refused);
     each_comes_to(&rt, alloc, &mut view, 8, refused);
     each_comes_to(&rt, alloc, &mut view, 7, found);
-    Ok(())
-}
-
-// The last version is found, not the first.
-#[test]
-fn the_last_version(rt: HostRuntime) -> Result<(), Fail> {
-    let alloc = rt.alloc();
-    let mut view = platform(alloc)?;
-    let script = "
-        create - amount=2000&currency=usd => 2: 2 requires_payment_method 2000 usd; payment_intent.created of 2
-        update pi_0000000000000002 amount=3000 => 2: 2 requires_payment_method 3000 usd
-    ";
-    each_comes_to(&rt, alloc, &mut view, 1, script);
-    let row = intent_row(&view, 1, b"pi_0000000000000002");
-    assert_eq!(rt;
-        row.map(|row| (row.place, row.object, row.account)),
-        Some((4, 2, 1))
-    );
-    let row = intent_row(&view, 1, b"pi_0000000000000004");
-    assert!(rt; row.is_none());
     Ok(())
 }

@@ -2,7 +2,11 @@
 
 use ph_base::{Bytes, Decline, Method, NoMemory};
 use ph_errors::ApiError;
-use ph_rows::{Attempt, AttemptState, Intent, Item, Order, PaymentError, PaymentMethod, Row};
+use ph_money::Amount;
+use ph_rows::{
+    Attempt, AttemptState, Charge, Intent, Item, Metadata, Order, PaymentError, PaymentMethod, Row,
+    Txn, TxnSource,
+};
 use std::alloc::Global;
 
 /// Adds a number in digits.
@@ -61,20 +65,30 @@ fn add_failure(shown: &mut Vec<u8>, error: Option<PaymentError>) -> Result<(), N
     }
 }
 
+// An amount that isn't 0.
+fn add_amount(
+    alloc: Global,
+    shown: &mut Vec<u8>,
+    name: &[u8],
+    amount: Amount,
+) -> Result<(), NoMemory> {
+    if amount.units() != 0 {
+        add_named_number(alloc, shown, name, amount.units())?;
+    }
+    Ok(())
+}
+
 fn add_amounts(alloc: Global, shown: &mut Vec<u8>, intent: &Intent) -> Result<(), NoMemory> {
     add_number(alloc, shown, intent.amount.units())?;
     shown.push(b' ')?;
     shown.extend_from_slice(intent.currency.code())?;
-    if intent.amount_capturable.units() != 0 {
-        add_named_number(
-            alloc,
-            shown,
-            b"capturable",
-            intent.amount_capturable.units(),
-        )?;
-    }
-    if intent.amount_received.units() != 0 {
-        add_named_number(alloc, shown, b"received", intent.amount_received.units())?;
+    add_amount(alloc, shown, b"capturable", intent.amount_capturable)?;
+    add_amount(alloc, shown, b"received", intent.amount_received)
+}
+
+fn add_pairs(shown: &mut Vec<u8>, metadata: &Metadata) -> Result<(), NoMemory> {
+    for pair in metadata.pairs() {
+        add_named(shown, pair.key.as_slice(), pair.value.as_slice())?;
     }
     Ok(())
 }
@@ -90,11 +104,54 @@ fn add_intent(alloc: Global, shown: &mut Vec<u8>, intent: &Intent) -> Result<(),
         None => {}
     }
     add_failure(shown, intent.last_payment_error)?;
-    add_text(shown, b"description", &intent.description)?;
-    for pair in intent.metadata.pairs() {
-        add_named(shown, pair.key.as_slice(), pair.value.as_slice())?;
+    match intent.latest_charge {
+        Some(charge) => add_named_number(alloc, shown, b"charge", charge)?,
+        None => {}
     }
+    add_text(shown, b"description", &intent.description)?;
+    add_pairs(shown, &intent.metadata)?;
     add_text(shown, b"group", &intent.transfer_group)
+}
+
+/// A charge as `charge STATUS AMOUNT CURRENCY`, and ` name=value` for each further field that says something.
+fn add_charge(alloc: Global, shown: &mut Vec<u8>, charge: &Charge) -> Result<(), NoMemory> {
+    shown.extend_from_slice(b"charge ")?;
+    shown.extend_from_slice(charge.status.text())?;
+    shown.push(b' ')?;
+    add_number(alloc, shown, charge.amount.units())?;
+    shown.push(b' ')?;
+    shown.extend_from_slice(charge.currency.code())?;
+    add_amount(alloc, shown, b"captured", charge.amount_captured)?;
+    match charge.capture {
+        Some(capture) => add_named_number(alloc, shown, b"txn", capture.transaction)?,
+        None => {}
+    }
+    add_named_number(alloc, shown, b"intent", charge.intent)?;
+    add_method(shown, &charge.payment_method)?;
+    add_text(shown, b"description", &charge.description)?;
+    add_pairs(shown, &charge.metadata)?;
+    add_text(shown, b"group", &charge.transfer_group)
+}
+
+fn source_number(source: TxnSource) -> u64 {
+    match source {
+        TxnSource::Charge(number) | TxnSource::Refund(number) | TxnSource::Dispute(number) => {
+            number
+        }
+    }
+}
+
+/// A transaction of amounts from 0 on as `txn TYPE AMOUNT CURRENCY fee=FEE on=MOMENT source=NUMBER`.
+fn add_txn(alloc: Global, shown: &mut Vec<u8>, txn: Txn) -> Result<(), NoMemory> {
+    shown.extend_from_slice(b"txn ")?;
+    shown.extend_from_slice(txn.sort.text())?;
+    shown.push(b' ')?;
+    add_number(alloc, shown, txn.amount.units() as u64)?;
+    shown.push(b' ')?;
+    shown.extend_from_slice(txn.currency.code())?;
+    add_named_number(alloc, shown, b"fee", txn.fee.units() as u64)?;
+    add_named_number(alloc, shown, b"on", txn.available_on)?;
+    add_named_number(alloc, shown, b"source", source_number(txn.source))
 }
 
 fn state_word(state: AttemptState) -> &'static [u8] {
@@ -140,22 +197,34 @@ fn add_attempt(alloc: Global, shown: &mut Vec<u8>, attempt: &Attempt) -> Result<
     add_named_number(alloc, shown, b"opener", attempt.opener)
 }
 
+fn add_object(alloc: Global, shown: &mut Vec<u8>, row: &Row) -> Result<(), NoMemory> {
+    add_number(alloc, shown, row.object)?;
+    shown.push(b' ')?;
+    Ok(())
+}
+
 /// Adds a row: the number of its object and what the version says, or an event as `TYPE of NUMBER`.
 pub fn add_row(alloc: Global, shown: &mut Vec<u8>, row: &Row) -> Result<(), NoMemory> {
     match &row.item {
-        Item::Account(_) => {
-            shown.extend_from_slice(b"account")?;
-            Ok(())
-        }
         Item::Intent(intent) => {
-            add_number(alloc, shown, row.object)?;
-            shown.push(b' ')?;
+            add_object(alloc, shown, row)?;
             add_intent(alloc, shown, intent)
         }
         Item::Attempt(attempt) => {
-            add_number(alloc, shown, row.object)?;
-            shown.push(b' ')?;
+            add_object(alloc, shown, row)?;
             add_attempt(alloc, shown, attempt)
+        }
+        Item::Charge(charge) => {
+            add_object(alloc, shown, row)?;
+            add_charge(alloc, shown, charge)
+        }
+        Item::Txn(txn) => {
+            add_object(alloc, shown, row)?;
+            add_txn(alloc, shown, *txn)
+        }
+        Item::Account(_) | Item::Refund(_) | Item::Dispute(_) => {
+            shown.extend_from_slice(b"another object")?;
+            Ok(())
         }
         Item::Event(event) => {
             shown.extend_from_slice(event.sort.text())?;

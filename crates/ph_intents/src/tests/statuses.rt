@@ -4,8 +4,8 @@ use super::script::{came_of, first_row, platform_row, view_of};
 use ph_base::{Bytes, Method, NoMemory};
 use ph_money::{Amount, Currency};
 use ph_rows::{
-    CancellationReason, CaptureMethod, Intent, IntentStatus, Item, ListView, Metadata,
-    PaymentMethod,
+    CancellationReason, CaptureMethod, Charge, ChargeStatus, Intent, IntentStatus, Item, ListView,
+    Metadata, PaymentMethod,
 };
 use std::alloc::Global;
 use std::process::Abort;
@@ -60,6 +60,7 @@ fn standing(alloc: Global, status: IntentStatus) -> Result<Intent, NoMemory> {
         payment_method: method_in(alloc, status)?,
         cancellation_reason: None,
         last_payment_error: None,
+        latest_charge: None,
         description: None,
         metadata: Metadata::new(alloc),
         transfer_group: None,
@@ -67,6 +68,7 @@ fn standing(alloc: Global, status: IntentStatus) -> Result<Intent, NoMemory> {
     if status == IntentStatus::RequiresCapture {
         intent.capture_method = CaptureMethod::Manual;
         intent.amount_capturable = Amount::new(2000);
+        intent.latest_charge = Some(3);
     }
     if status == IntentStatus::Succeeded {
         intent.amount_received = Amount::new(2000);
@@ -77,13 +79,33 @@ fn standing(alloc: Global, status: IntentStatus) -> Result<Intent, NoMemory> {
     Ok(intent)
 }
 
-// The platform's account and that payment intent.
+// The charge of 2000 usd that holds it.
+fn holding(alloc: Global) -> Result<Charge, NoMemory> {
+    Ok(Charge {
+        intent: 2,
+        amount: Amount::new(2000),
+        amount_captured: Amount::new(0),
+        amount_refunded: Amount::new(0),
+        currency: Currency::Usd,
+        status: ChargeStatus::Succeeded,
+        payment_method: named(alloc, b"pm_card_visa", Method::Visa)?,
+        capture: None,
+        dispute: None,
+        description: None,
+        metadata: Metadata::new(alloc),
+        transfer_group: None,
+    })
+}
+
+// The platform's account and that payment intent; behind them the charge, where the payment intent waits for its
+// capture.
 fn view_in(alloc: Global, status: IntentStatus) -> Result<ListView, NoMemory> {
     let intent = Item::Intent(standing(alloc, status)?);
-    view_of(
-        alloc,
-        vec![in alloc; platform_row(alloc), first_row(2, 1, intent)]?,
-    )
+    let mut rows = vec![in alloc; platform_row(alloc), first_row(2, 1, intent)]?;
+    if status == IntentStatus::RequiresCapture {
+        rows.push(first_row(3, 1, Item::Charge(holding(alloc)?)))?;
+    }
+    view_of(alloc, rows)
 }
 
 // What a call comes to in a status.
@@ -149,12 +171,12 @@ fn every_status_and_call(rt: HostRuntime) -> Result<(), Fail> {
         processing: cancel pi_0000000000000002 => 400 payment_intent_unexpected_state -
         processing: authenticate pi_0000000000000002 => 400 payment_intent_unexpected_state -
         processing: fail pi_0000000000000002 => 400 payment_intent_unexpected_state -
-        requires_capture: update pi_0000000000000002 description=x => 2: 2 requires_capture 2000 usd capturable=2000 method=pm_card_visa description=x
+        requires_capture: update pi_0000000000000002 description=x => 2: 2 requires_capture 2000 usd capturable=2000 method=pm_card_visa charge=3 description=x
         requires_capture: update pi_0000000000000002 amount=3000 => 400 payment_intent_unexpected_state -
         requires_capture: update pi_0000000000000002 payment_method=pm_card_bypassPending => 400 payment_intent_unexpected_state -
         requires_capture: confirm pi_0000000000000002 payment_method=pm_card_bypassPending => 400 payment_intent_unexpected_state -
-        requires_capture: capture pi_0000000000000002 => 2: 2 succeeded 2000 usd received=2000 method=pm_card_visa; payment_intent.succeeded of 2
-        requires_capture: cancel pi_0000000000000002 => 2: 2 canceled 2000 usd method=pm_card_visa; payment_intent.canceled of 2
+        requires_capture: capture pi_0000000000000002 => 2: 3 charge succeeded 2000 usd captured=2000 txn=5 intent=2 method=pm_card_visa; 5 txn charge 2000 usd fee=88 on=1700172800 source=3; 2 succeeded 2000 usd received=2000 method=pm_card_visa charge=3; charge.captured of 3; payment_intent.succeeded of 2
+        requires_capture: cancel pi_0000000000000002 => 2: 2 canceled 2000 usd method=pm_card_visa charge=3; payment_intent.canceled of 2
         requires_capture: authenticate pi_0000000000000002 => 400 payment_intent_unexpected_state -
         requires_capture: fail pi_0000000000000002 => 400 payment_intent_unexpected_state -
         succeeded: update pi_0000000000000002 description=x => 2: 2 succeeded 2000 usd received=2000 method=pm_card_visa description=x
