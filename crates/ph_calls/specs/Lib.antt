@@ -7,3 +7,5 @@ pub mod Disputes
 pub mod Clock
 pub mod Reading
 pub mod Outcomes
+pub mod Keeps
+pub mod Fit

@@ -1,7 +1,6 @@
 mod EnterLemmas
 mod FollowLemmas
 mod FoundLemmas
-mod IdLemmas
 pub mod KeepsLemmas
 pub mod SettleLemmas
 mod TextLemmas

@@ -5,7 +5,6 @@ pub mod Cancel
 pub mod Capture
 pub mod Confirm
 pub mod Create
-pub mod Finding
 pub mod Keeps
 pub mod Laws
 pub mod Metadata

@@ -6,6 +6,7 @@ mod characters;
 mod events;
 mod flaw;
 mod form_values;
+mod kept;
 mod kind;
 mod kinds;
 mod lists;
@@ -24,6 +25,7 @@ pub use form_values::{
     currency_at, events_at, metadata_at, number_at, payment_method_at, refund_reason_at, text_at,
     truth_at,
 };
+pub use kept::first_metadata;
 pub use kind::Kind;
 pub use kinds::{map_flaw, text_flaw};
 pub use lists::{Pairs, Texts};

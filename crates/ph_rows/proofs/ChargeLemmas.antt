@@ -61,7 +61,7 @@ refunded_of-none charge (row ∷ rows) h =
     omega arith
 
 -- an object that has begun among rows is no later one
-origin_within : (rows : List Row) (origin : Origin) → IsOrigin (row_at origin.number rows) origin → origin.number ≤ length rows
+pub origin_within : (rows : List Row) (origin : Origin) → IsOrigin (row_at origin.number rows) origin → origin.number ≤ length rows
 origin_within rows origin h = at (row_at origin.number rows) refl h
   where
     at : (o : Option Row) → row_at origin.number rows ≡ o → IsOrigin o origin → origin.number ≤ length rows
@@ -105,7 +105,7 @@ refunded_by-later rows charge (item.Txn txn) later there = refl
 refunded_by-later rows charge (item.Event event) later there = refl
 
 -- what a row among rows in order was made for is there
-origin_at : (state : ViewState) (i : ℕ) (row : Row) → IsInOrder state → slice_get state.rows i ≡ Some row
+pub origin_at : (state : ViewState) (i : ℕ) (row : Row) → IsInOrder state → slice_get state.rows i ≡ Some row
     → HasOrigin state.rows (origin_of row.item)
 origin_at state i row order e =
     let before : i ≡ (i + 1) - 1 = omega arith in
@@ -247,6 +247,10 @@ sums_of_others rows more charge sums mine apart other = at (eqb other charge) re
     at true e = subst (λ (k : ℕ). HasSumsAt k (rows ++ more)) (sym (eqb-true other charge e)) mine
     at false e = sums_stay other rows more (apart other (eqb-false other charge e)) (sums other)
 
+pub both_fail : (a b : Bool) → a ≡ false → b ≡ false → (a || b) ≡ false
+both_fail true b e f = e
+both_fail false b e f = f
+
 -- a list of which neither part passes a test
 pub neither_part : (test : Row → Bool) (rows more : List Row) → list_any test rows ≡ false → list_any test more ≡ false
     → list_any test (rows ++ more) ≡ false
@@ -254,7 +258,3 @@ neither_part test [] more first second = second
 neither_part test (row ∷ rows) more first second =
     both_fail (test row) (list_any test (rows ++ more)) (first_fails (test row) (list_any test rows) first)
     (neither_part test rows more (second_fails (test row) (list_any test rows) first) second)
-  where
-    both_fail : (a b : Bool) → a ≡ false → b ≡ false → (a || b) ≡ false
-    both_fail true b e f = e
-    both_fail false b e f = f

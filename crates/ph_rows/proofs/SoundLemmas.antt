@@ -9,10 +9,11 @@ use Rattle.ph_rows.specs.declared.rows.Row.{Row}
 use Rattle.ph_rows.specs.declared.items.Item.TheVariants as item
 use Rattle.ph_rows.specs.declared.events.Event.{Event}
 use Rattle.ph_rows.specs.Origins.{Origin, HasOrigin, IsOrigin, is_made_once, origin_of}
+use Rattle.ph_rows.specs.Kinds.{kind_of}
 use Rattle.ph_rows.specs.Rows.{row_at, later_version, latest_of}
 use Rattle.ph_rows.specs.Views.{ViewState}
 use Rattle.ph_rows.specs.Weights.{texts_of}
-use Rattle.ph_rows.specs.Sound.{clock_limit, AreHeld, HasBegun, HasSubject, HaveSums, IsInOrder, IsSound, with_next, MayFollow, AllMayFollow}
+use Rattle.ph_rows.specs.Sound.{clock_limit, AreHeld, HasBegun, HasSubject, HaveMoves, HaveSums, IsInOrder, IsSound, with_next, MayFollow, AllMayFollow}
 
 -- which of two was chosen
 pub picked : {A : Type 0} (b : Bool) (x y z : A) → cond b x y ≡ z → ((b ≡ true) × (x ≡ z)) ⊎ ((b ≡ false) × (y ≡ z))
@@ -20,7 +21,7 @@ picked true x y z e = inl (refl, e)
 picked false x y z e = inr (refl, e)
 
 -- an element stays where it is with more elements behind
-slice_get-before : (rows more : List Row) (i : ℕ) (row : Row) → slice_get rows i ≡ Some row
+pub slice_get-before : (rows more : List Row) (i : ℕ) (row : Row) → slice_get rows i ≡ Some row
     → slice_get (rows ++ more) i ≡ Some row
 slice_get-before [] more i row e = absurd (cc)
 slice_get-before (x ∷ rows) more zero row e = e
@@ -74,6 +75,13 @@ row_at_within place rows row e =
     let some : (place ≡ 0) → ⊥ = found.0 in
     let below : place - 1 < length rows = slice_get_within rows (place - 1) row found.1 in
     (omega arith, omega arith)
+
+-- an element behind others
+slice_get-behind : (rows more : List Row) (i : ℕ) → slice_get (rows ++ more) (length rows + i) ≡ slice_get more i
+slice_get-behind [] more i = (let none : 0 + i ≡ i = omega arith in ap (slice_get more) none)
+slice_get-behind (x ∷ rows) more i =
+    let one : length (x ∷ rows) + i ≡ suc (length rows + i) = omega arith in
+    ap (slice_get (x ∷ rows ++ more)) one ∙ slice_get-behind rows more i
 
 -- with one row more, the row of a place is an earlier one or that one
 pub row_at-more : (place : ℕ) (rows : List Row) (new row : Row) → row_at place (rows ++ new ∷ []) ≡ Some row
@@ -150,6 +158,7 @@ sound_empty time clock = record {
   order = order_empty time clock;
   charges = λ object row charge e is. absurd (cc);
   held = λ object row intent e is waits. absurd (cc);
+  disputes = λ object row dispute e is. absurd (cc);
 }
 
 -- rows in order stay so at a later time
@@ -174,6 +183,7 @@ sound_later state now sound later clock = record {
   order = order_later state now sound.order later clock;
   charges = sound.charges;
   held = sound.held;
+  disputes = sound.disputes;
 }
 
 -- rows in order stay so with a row that may follow
@@ -264,6 +274,21 @@ pub latest_of_sound : (state : ViewState) (object : ℕ) (row : Row) → IsSound
     → latest_of object state.rows ≡ Some row → (row_at row.place state.rows ≡ Some row) × (row.object ≡ object)
 latest_of_sound state object row sound e = latest_of_order state object row sound.order e
 
+-- an object that is made after the rows has no version among them
+pub latest_of-later : (state : ViewState) (object : ℕ) → IsInOrder state → length state.rows < object
+    → latest_of object state.rows ≡ None
+latest_of-later state object order later = at (latest_of object state.rows) refl
+  where
+    at : (found : Option Row) → latest_of object state.rows ≡ found → found ≡ None
+    at None e = refl
+    at (Some row) e =
+        let stands : (row_at row.place state.rows ≡ Some row) × (row.object ≡ object) = latest_of_order state object row order e in
+        let first : row.object ≤ row.place = order.first row.place row stands.0 in
+        let within : (0 < row.place) × (row.place ≤ length state.rows) = row_at_within row.place state.rows row stands.0 in
+        let last : row.place ≤ length state.rows = within.1 in
+        let same : row.object ≡ object = stands.1 in
+        absurd (omega arith)
+
 -- the present version of an object is one of the object that its number begins
 pub latest_has_begun : (state : ViewState) (object : ℕ) (row : Row) → IsSound state → latest_of object state.rows ≡ Some row
     → HasBegun (row_at object state.rows) row
@@ -271,8 +296,30 @@ latest_has_begun state object row sound e =
     let found : (row_at row.place state.rows ≡ Some row) × (row.object ≡ object) = latest_of_sound state object row sound e in
     subst (λ o. HasBegun (row_at o state.rows) row) found.1 (sound.order.begun row.place row found.0)
 
+-- the versions of an object are of one kind
+pub versions_alike : (state : ViewState) (place other : ℕ) (row second : Row) → IsInOrder state
+    → row_at place state.rows ≡ Some row → row_at other state.rows ≡ Some second → row.object ≡ second.object
+    → kind_of row.item ≡ kind_of second.item
+versions_alike state place other row second order here there same =
+    at (row_at row.object state.rows) (order.begun place row here)
+    (subst (λ (o : ℕ). HasBegun (row_at o state.rows) second) (sym same) (order.begun other second there))
+  where
+    at : (first : Option Row) → HasBegun first row → HasBegun first second → kind_of row.item ≡ kind_of second.item
+    at None h k = absurd h
+    at (Some first) h k = sym h.kind ∙ k.kind
+
+-- the rows behind others stand at their places
+pub stands_behind : (state : ViewState) (more : List Row) (i : ℕ) (row : Row) → IsInOrder (record state { rows = state.rows ++ more })
+    → slice_get more i ≡ Some row → row_at row.place (state.rows ++ more) ≡ Some row
+stands_behind state more i row order found =
+    let before : length state.rows + i ≡ (length state.rows + i + 1) - 1 = omega arith in
+    let place : row_at (length state.rows + i + 1) (state.rows ++ more) ≡ Some row =
+        is_row_at (length state.rows + i + 1) (state.rows ++ more) row (λ z. omega arith)
+        (subst (λ j. slice_get (state.rows ++ more) j ≡ Some row) before (slice_get-behind state.rows more i ∙ found)) in
+    subst (λ p. row_at p (state.rows ++ more) ≡ Some row) (sym (order.placed (length state.rows + i + 1) row place)) place
+
 -- rows in order stay so with rows that may follow one after another
-order_with_all : (state : ViewState) (rows : List Row) → IsInOrder state → AllMayFollow state rows
+pub order_with_all : (state : ViewState) (rows : List Row) → IsInOrder state → AllMayFollow state rows
     → IsInOrder (record state { rows = state.rows ++ rows })
 order_with_all state [] order follow =
     subst (λ (all : List Row). IsInOrder (record state { rows = all })) (sym (append-nil state.rows)) order
@@ -281,11 +328,13 @@ order_with_all state (row ∷ rows) order follow =
     (order_with_all (with_next state row) rows (order_with state row order follow.0) follow.1)
 
 -- a sound view stays sound with the rows of an entry: they may follow one after another, and with them the amounts of
--- the charges are sums, and payment intents that wait for their capture are held
+-- the charges are sums, payment intents that wait for their capture are held, and the disputes have moved what they should
 pub sound_with_all : (state : ViewState) (rows : List Row) → IsSound state → AllMayFollow state rows
-    → HaveSums (state.rows ++ rows) → AreHeld (state.rows ++ rows) → IsSound (record state { rows = state.rows ++ rows })
-sound_with_all state rows sound follow charges held = record {
+    → HaveSums (state.rows ++ rows) → AreHeld (state.rows ++ rows) → HaveMoves (state.rows ++ rows)
+    → IsSound (record state { rows = state.rows ++ rows })
+sound_with_all state rows sound follow charges held disputes = record {
   order = order_with_all state rows sound.order follow;
   charges = charges;
   held = held;
+  disputes = disputes;
 }

@@ -5,6 +5,7 @@ use Rattle.std.specs.Str.{is_utf8}
 use Rattle.ph_rows.specs.declared.rows.Row.{Row}
 use Rattle.ph_rows.specs.declared.items.Item.TheVariants as item
 use Rattle.ph_rows.specs.declared.charges.Charge.{Charge}
+use Rattle.ph_rows.specs.declared.disputes.Dispute.{Dispute}
 use Rattle.ph_rows.specs.declared.events.Event.{Event}
 use Rattle.ph_rows.specs.declared.intents.Intent.{Intent}
 use Rattle.ph_rows.specs.declared.intents.IntentStatus.TheVariants as status
@@ -13,7 +14,7 @@ use Rattle.ph_rows.specs.Kinds.{kind_of}
 use Rattle.ph_rows.specs.Words.{subject_of}
 use Rattle.ph_rows.specs.Rows.{row_at, latest_of}
 use Rattle.ph_rows.specs.Origins.{origin_of, HasOrigin, is_made_once}
-use Rattle.ph_rows.specs.Transactions.{captured_of, refunded_of}
+use Rattle.ph_rows.specs.Transactions.{captured_of, refunded_of, moves_of, moves_in}
 use Rattle.ph_rows.specs.Views.{ViewState}
 use Rattle.ph_rows.specs.Weights.{texts_of}
 
@@ -88,6 +89,11 @@ IsHeldAt object rows = (row : Row) (intent : Intent) → latest_of object rows �
 abbrev pub AreHeld : List Row → Type 0
 AreHeld rows = (object : ℕ) → IsHeldAt object rows
 
+-- the present version of every dispute has moved what its status says
+abbrev pub HaveMoves : List Row → Type 0
+HaveMoves rows = (object : ℕ) (row : Row) (dispute : Dispute) → latest_of object rows ≡ Some row
+    → row.item ≡ item.Dispute dispute → moves_of object rows ≡ moves_in dispute.status dispute.amount
+
 -- what holds of the time and of each row, as soon as the row is added
 pub record IsInOrder (state : ViewState) : Type 0 where
   -- the time is one that a clock shows
@@ -120,6 +126,8 @@ pub record IsSound (state : ViewState) : Type 0 where
   pub charges : HaveSums state.rows
   -- what a payment intent that waits for its capture may capture is held by its charge
   pub held : AreHeld state.rows
+  -- the disputes have moved what their statuses say
+  pub disputes : HaveMoves state.rows
 
 -- the view with one row more
 abbrev pub with_next : ViewState → Row → ViewState

@@ -1,8 +1,11 @@
--- Balance transactions: what they come from, what they give to a balance, and the amounts of a charge that they add up to.
-use Rattle.std.specs.Prelude.{ℕ, ◌+◌, Bool, true, false, ◌==◌, ◌&&◌, if◌then◌else◌, ℤ, pos, ◌+ℤ◌, ◌-ℤ◌, List, [], ◌∷◌, Option, None, Some}
+-- Balance transactions: what they come from, what they give to a balance, the amounts of a charge that they add up to, and
+-- what they move for a dispute.
+use Rattle.std.specs.Prelude.{ℕ, ◌+◌, Bool, true, false, ◌==◌, ◌&&◌, if◌then◌else◌, ℤ, pos, ◌+ℤ◌, ◌-ℤ◌, List, [], ◌∷◌, ◌++◌, Option, None, Some}
 use Rattle.ph_base.specs.declared.ids.Kind.{Kind}
 use Rattle.ph_base.specs.declared.ids.Kind.TheVariants as kind
 use Rattle.ph_rows.specs.declared.rows.Row.{Row}
+use Rattle.ph_rows.specs.declared.disputes.DisputeStatus.{DisputeStatus}
+use Rattle.ph_rows.specs.declared.disputes.DisputeStatus.TheVariants as status
 use Rattle.ph_rows.specs.declared.refunds.Refund.{Refund}
 use Rattle.ph_rows.specs.declared.transactions.Txn.{Txn}
 use Rattle.ph_rows.specs.declared.transactions.TxnType.{TxnType}
@@ -53,3 +56,44 @@ refunded_by charge (Some refund) = if refund.charge == charge then refund.amount
 abbrev pub refunded_of : ℕ → List Row → ℕ
 refunded_of charge [] = 0
 refunded_of charge (row ∷ rows) = refunded_by charge (refund_in row.item) + refunded_of charge rows
+
+-- the fee of a dispute, in minor units of its currency
+abbrev pub dispute_fee : ℕ
+dispute_fee = 1500
+
+-- a transaction comes from the dispute
+abbrev pub is_from_dispute : ℕ → TxnSource → Bool
+is_from_dispute dispute (source.Charge number) = false
+is_from_dispute dispute (source.Refund number) = false
+is_from_dispute dispute (source.Dispute number) = number == dispute
+
+-- what a transaction moves for a dispute, where it comes from it
+pub record Move : Type 0 where
+  pub amount : ℤ
+  pub fee : ℤ
+
+-- the moves of a transaction for a dispute: one, or none
+abbrev pub moves_by : ℕ → Option Txn → List Move
+moves_by dispute None = []
+moves_by dispute (Some txn) =
+    if is_from_dispute dispute txn.source then record { amount = txn.amount; fee = txn.fee } ∷ [] else []
+
+-- what the transactions of a dispute moved, in their order
+abbrev pub moves_of : ℕ → List Row → List Move
+moves_of dispute [] = []
+moves_of dispute (row ∷ rows) = moves_by dispute (txn_in row.item) ++ moves_of dispute rows
+
+-- what a dispute of an amount takes when it is opened: the amount, and the fee
+abbrev pub taken_move : ℕ → Move
+taken_move amount = record { amount = pos 0 -ℤ pos amount; fee = pos dispute_fee }
+
+-- what it gives back when it is won: the amount, but not the fee
+abbrev pub given_move : ℕ → Move
+given_move amount = record { amount = pos amount; fee = pos 0 }
+
+-- what a dispute of an amount has moved in a status: it takes once, and gives back once, when it is won
+abbrev pub moves_in : DisputeStatus → ℕ → List Move
+moves_in status.NeedsResponse amount = taken_move amount ∷ []
+moves_in status.UnderReview amount = taken_move amount ∷ []
+moves_in status.Won amount = taken_move amount ∷ given_move amount ∷ []
+moves_in status.Lost amount = taken_move amount ∷ []

@@ -1,5 +1,5 @@
 -- The number that a printed id names.
-use Rattle.std.proofs.Common.{◌≡◌, ℕ, ◌==◌, ◌-◌, ◌^◌, Bool, true, false, ◌&&◌, cond, nat_lt, List, ◌++◌, length, drop, Some, None, unwrap_or, refl, sym, ap, ◌∙◌, arith}
+use Rattle.std.proofs.Common.{◌≡◌, ℕ, ◌==◌, ◌-◌, ◌^◌, Bool, true, false, ◌&&◌, cond, nat_lt, List, ◌++◌, length, drop, Some, None, get_or, unwrap_or, refl, sym, ap, ◌∙◌, arith}
 use Rattle.std.proofs.lemmas.Bool.{false≢true}
 use Rattle.std.proofs.lemmas.Bool.Decides.{nat_tests}
 use Rattle.std.proofs.lemmas.Slice.Eq.{bytes_eq-Decides}
@@ -9,29 +9,37 @@ use Rattle.ph_base.specs.declared.ids.Kind.{Kind}
 use Rattle.ph_base.specs.declared.ids.Kind.TheVariants.{Intent, Attempt, Charge, Payment, Refund, Dispute, Transfer, Reversal, Fee, FeeRefund, Txn, Account, Event, Endpoint, Delivery, Payout}
 use Rattle.ph_base.specs.Ids.{prefix_of, id_text}
 use Rattle.ph_base.specs.Numbers.{decimal, padded}
-use Rattle.ph_base.proofs.IdLemmas.{parts_of}
+use Rattle.ph_base.proofs.IdLemmas.{kinds, parts_of}
 use Rattle.ph_base.proofs.DecimalLemmas.{decimal_padded}
 use Rattle.ph_rows.specs.Kinds.{number_of}
-use Rattle.ph_intents.specs.Finding.{number_named, is_printed_as}
+use Rattle.ph_rows.specs.Names.{number_named, is_printed_as}
 
--- the kind with the number of payment intents is that of payment intents
-pub intent_kind : (k : Kind) → true ≡ (number_of k == 0) → k ≡ Intent
-intent_kind Intent e = refl
-intent_kind Attempt e = absurd (false≢true (sym e))
-intent_kind Charge e = absurd (false≢true (sym e))
-intent_kind Payment e = absurd (false≢true (sym e))
-intent_kind Refund e = absurd (false≢true (sym e))
-intent_kind Dispute e = absurd (false≢true (sym e))
-intent_kind Transfer e = absurd (false≢true (sym e))
-intent_kind Reversal e = absurd (false≢true (sym e))
-intent_kind Fee e = absurd (false≢true (sym e))
-intent_kind FeeRefund e = absurd (false≢true (sym e))
-intent_kind Txn e = absurd (false≢true (sym e))
-intent_kind Account e = absurd (false≢true (sym e))
-intent_kind Event e = absurd (false≢true (sym e))
-intent_kind Endpoint e = absurd (false≢true (sym e))
-intent_kind Delivery e = absurd (false≢true (sym e))
-intent_kind Payout e = absurd (false≢true (sym e))
+-- the kind of a number
+kind_again : ℕ → Kind
+kind_again number = get_or kinds number Intent
+
+again : (k : Kind) → kind_again (number_of k) ≡ k
+unfolding kind_again
+again Intent = refl
+again Attempt = refl
+again Charge = refl
+again Payment = refl
+again Refund = refl
+again Dispute = refl
+again Transfer = refl
+again Reversal = refl
+again Fee = refl
+again FeeRefund = refl
+again Txn = refl
+again Account = refl
+again Event = refl
+again Endpoint = refl
+again Delivery = refl
+again Payout = refl
+
+-- kinds with the same number are the same
+pub kind_numbered : (a b : Kind) → number_of a ≡ number_of b → a ≡ b
+kind_numbered a b e = sym (again a) ∙ ap kind_again e ∙ again b
 
 -- a printed id names its number
 pub names_number : (text : List ℕ) (i : Id) → text ≡ id_text i → number_named i.kind text ≡ Some i.number
@@ -57,9 +65,8 @@ names_none kind text never = cases (decimal (drop (length text - 16) text)) (is_
         split n true false ha hb h = false≢true h
         split n false b ha hb h = false≢true h
 
--- a printed id of another kind names no payment intent
-pub names_another : (text : List ℕ) (i : Id) → false ≡ (number_of i.kind == 0) → ((j : Id) → text ≡ id_text j → Some i ≡ Some j)
-    → None ≡ number_named Intent text
-names_another text i other only = names_none Intent text (λ j is same.
-    let number : number_of i.kind ≡ 0 = ap (λ found. number_of (unwrap_or found i).kind) (only j same) ∙ ap number_of is in
-    false≢true (other ∙ ap (λ n. n == 0) number))
+-- a printed id of another kind names no number
+pub names_another : (wanted : Kind) (text : List ℕ) (i : Id) → (number_of i.kind ≡ number_of wanted → ⊥)
+    → ((j : Id) → text ≡ id_text j → Some i ≡ Some j) → None ≡ number_named wanted text
+names_another wanted text i other only =
+    names_none wanted text (λ j is same. other (ap (λ found. number_of (unwrap_or found i).kind) (only j same) ∙ ap number_of is))

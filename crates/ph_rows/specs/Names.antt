@@ -1,8 +1,7 @@
--- The payment intent that a path names.
+-- The object that an id in a path or a parameter names.
 use Rattle.std.specs.Prelude.{ℕ, ◌-◌, ◌^◌, Bool, ◌==◌, ◌&&◌, nat_lt, if◌then◌else◌, List, ◌++◌, length, drop, Option, None, Some, option_and_then}
 use Rattle.std.specs.Str.{bytes_eq}
 use Rattle.ph_base.specs.declared.ids.Kind.{Kind}
-use Rattle.ph_base.specs.declared.ids.Kind.TheVariants as kind
 use Rattle.ph_base.specs.Ids.{prefix_of}
 use Rattle.ph_base.specs.Numbers.{decimal, padded}
 use Rattle.ph_rows.specs.declared.rows.Row.{Row}
@@ -21,18 +20,22 @@ if_printed_as wanted text number = if is_printed_as wanted text number then Some
 unfoldable pub number_named : Kind → List ℕ → Option ℕ
 number_named wanted text = if_printed_as wanted text (decimal (drop (length text - 16) text))
 
--- the row is a version of a payment intent of the account
-abbrev pub is_intent_of : ℕ → Row → Bool
-is_intent_of account row = row.account == account && is_kind kind.Intent row.item
+-- a row, where it is a version of an object of the kind
+abbrev pub if_of_kind : Kind → Row → Option Row
+if_of_kind wanted row = if is_kind wanted row.item then Some row else None
 
--- a row, where it is a version of a payment intent of the account
-abbrev pub if_intent_of : ℕ → Row → Option Row
-if_intent_of account row = if is_intent_of account row then Some row else None
+-- the present version of an object, where it is of the kind
+abbrev pub object_of : List Row → Kind → ℕ → Option Row
+object_of rows wanted number = option_and_then (if_of_kind wanted) (latest_of number rows)
 
--- the last row of an object, where it is a payment intent of the account
-abbrev pub intent_of : List Row → ℕ → ℕ → Option Row
-intent_of rows account number = option_and_then (if_intent_of account) (latest_of number rows)
+-- the present version of the object of the kind whose printed id a text is, whatever its account
+abbrev pub object_named : List Row → Kind → List ℕ → Option Row
+object_named rows wanted text = option_and_then (object_of rows wanted) (number_named wanted text)
 
--- the last row of the payment intent of the account whose printed id a text is
-abbrev pub intent_named : List Row → ℕ → List ℕ → Option Row
-intent_named rows account text = option_and_then (intent_of rows account) (number_named kind.Intent text)
+-- a row, where it is of the account
+abbrev pub if_of_account : ℕ → Row → Option Row
+if_of_account account row = if row.account == account then Some row else None
+
+-- the same, where the object is of the account
+abbrev pub owned_named : List Row → ℕ → Kind → List ℕ → Option Row
+owned_named rows account wanted text = option_and_then (if_of_account account) (object_named rows wanted text)
