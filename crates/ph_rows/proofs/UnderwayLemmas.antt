@@ -1,7 +1,5 @@
 -- Batches that continue a view and tell of their rows, as rows and announcements are added to them.
-use Rattle.std.proofs.Common.{◌≡◌, ℕ, ◌+◌, ◌^◌, ◌<◌, eqb, List, [], ◌∷◌, ◌++◌, Option, None, Some, length, refl, sym, ◌∙◌, subst}
-use Rattle.std.proofs.lemmas.Bool.{cond-true, eq-eqb}
-use Rattle.std.proofs.lemmas.List.Sums.{fold_push}
+use Rattle.std.proofs.Common.{◌≡◌, ℕ, ◌+◌, ◌^◌, ◌<◌, List, [], ◌∷◌, ◌++◌, Option, Some, length, sym, subst}
 use Rattle.ph_rows.specs.declared.rows.Row.{Row}
 use Rattle.ph_rows.specs.declared.batches.Announced.{Announced}
 use Rattle.ph_rows.specs.declared.items.Item.{Item}
@@ -9,10 +7,11 @@ use Rattle.ph_rows.specs.declared.event_kinds.EventKind.{EventKind}
 use Rattle.ph_rows.specs.Batches.{BatchState, last_place, next_row, with_row, with_announced}
 use Rattle.ph_rows.specs.Entering.{AreTold, IsToldBy}
 use Rattle.ph_rows.specs.Kinds.{kind_of}
-use Rattle.ph_rows.specs.Rows.{row_at, later_version, latest_of}
+use Rattle.ph_rows.specs.Rows.{row_at, latest_of}
 use Rattle.ph_rows.specs.Sound.{IsInOrder, MayFollow}
 use Rattle.ph_rows.specs.Views.{ViewState}
 use Rattle.ph_rows.specs.Words.{subject_of}
+use Rattle.ph_rows.proofs.AmountLemmas.{latest_of-last}
 use Rattle.ph_rows.proofs.BatchLemmas.{Continues, IsFurtherOf, MayStand, continues_told, continues_with, first_may_follow, further_may_follow, with_batch}
 use Rattle.ph_rows.proofs.EnterLemmas.{told_with}
 use Rattle.ph_rows.proofs.SoundLemmas.{order_with_all}
@@ -50,8 +49,7 @@ underway_told state batch object account content sort underway subject =
       continues = continues_told state (with_row batch object account content) sort object underway.continues;
       told = told_push (batch.rows ++ new ∷ []) batch.announced (record { sort = sort; object = object }) underway.told
           (subst (λ (found : Option Row). IsToldBy found sort)
-          (sym (fold_push (later_version object) None batch.rows new ∙ cond-true (eqb object object) (Some new) (latest_of object batch.rows) (eq-eqb object object refl)))
-          subject);
+          (sym (latest_of-last batch.rows new)) subject);
     }
 
 -- and with the first version of a new object
