@@ -1,4 +1,4 @@
--- The first refusal of a request's parameters by a row of the table.
+-- The first refusal of a request's parameters: by a row of the table, and then by further checks.
 use Rattle.std.specs.Prelude.{ℕ, ◌||◌, not, Bool, if◌then◌else◌, List, [], ◌∷◌, Option, Some, None, option_map, find, codes}
 use Rattle.std.specs.Option.{option_or}
 use Rattle.std.specs.List.{list_any}
@@ -57,3 +57,8 @@ unknown_error line leaves = option_map (λ leaf. error_of (ParameterUnknown leaf
 -- the first error: of the least unknown name, or else of the first parameter that has one
 abbrev pub error_in : Line → List Leaf → Option ApiError
 error_in line leaves = option_or (unknown_error line leaves) (first_error line.params leaves)
+
+-- the error of the first of these further checks whose test holds
+abbrev pub first_that_holds : List (Bool × ApiError) → Option ApiError
+first_that_holds [] = None
+first_that_holds (check ∷ checks) = if check.0 then Some check.1 else first_that_holds checks

@@ -10,6 +10,7 @@ use Rattle.ph_kinds.specs.declared.authentication.Authentication.TheVariants.{Fa
 use Rattle.ph_kinds.specs.Numbers.{amount_in}
 use Rattle.ph_kinds.specs.Words.{authentication_in, cancellation_reason_in, capture_method_in, currency_in}
 use Rattle.ph_kinds.specs.Values.{metadata_at, payment_method_at, truth_at, value_at}
+use Rattle.ph_calls.specs.Check.{first_that_holds}
 use Rattle.ph_calls.specs.declared.call.Authenticate.{Authenticate}
 use Rattle.ph_calls.specs.declared.call.CancelIntent.{CancelIntent}
 use Rattle.ph_calls.specs.declared.call.CaptureIntent.{CaptureIntent}
@@ -29,11 +30,6 @@ create_intent leaves = record {
   metadata = metadata_at (codes "metadata") leaves;
   transfer_group = text_at (codes "transfer_group") leaves;
 }
-
--- the error of the first of these tests that holds
-abbrev pub first_that_holds : List (Bool × ApiError) → Option ApiError
-first_that_holds [] = None
-first_that_holds (check ∷ checks) = if check.0 then Some check.1 else first_that_holds checks
 
 -- the further checks of the create, in their order: an amount below the currency's minimum, and a confirm without a payment method
 abbrev pub create_intent_error : CreateIntent → Option ApiError

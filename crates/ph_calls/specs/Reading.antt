@@ -15,7 +15,10 @@ use Rattle.ph_calls.specs.declared.row.Name.TheVariants as name
 use Rattle.ph_calls.specs.declared.call.Call.{Call}
 use Rattle.ph_calls.specs.declared.call.Call.TheVariants as call
 use Rattle.ph_calls.specs.Check.{error_in}
+use Rattle.ph_calls.specs.Clock.{set_clock, set_clock_error}
+use Rattle.ph_calls.specs.Disputes.{send_evidence}
 use Rattle.ph_calls.specs.Intents.{authenticate_intent, cancel_intent, capture_intent, confirm_intent, create_intent, create_intent_error, update_intent}
+use Rattle.ph_calls.specs.Refunds.{create_refund, create_refund_error}
 use Rattle.ph_calls.specs.Routes.{Route, Nowhere, To, route_in}
 use Rattle.ph_calls.specs.Table.{Line, table}
 
@@ -39,6 +42,15 @@ call_of name.UpdateIntent id leaves = Ok (call.UpdateIntent (update_intent id le
 call_of name.ConfirmIntent id leaves = Ok (call.ConfirmIntent (confirm_intent id leaves))
 call_of name.CaptureIntent id leaves = Ok (call.CaptureIntent (capture_intent id leaves))
 call_of name.CancelIntent id leaves = Ok (call.CancelIntent (cancel_intent id leaves))
+call_of name.GetCharge id leaves = Ok (call.GetCharge (record { id = id }))
+call_of name.CreateRefund id leaves = unless_error (create_refund_error (create_refund leaves)) (Ok (call.CreateRefund (create_refund leaves)))
+call_of name.GetRefund id leaves = Ok (call.GetRefund (record { id = id }))
+call_of name.GetDispute id leaves = Ok (call.GetDispute (record { id = id }))
+call_of name.SendEvidence id leaves = Ok (call.SendEvidence (send_evidence id leaves))
+call_of name.CloseDispute id leaves = Ok (call.CloseDispute (record { id = id }))
+call_of name.GetBalance id leaves = Ok (call.GetBalance (record {}))
+call_of name.GetTxn id leaves = Ok (call.GetTxn (record { id = id }))
+call_of name.SetClock id leaves = unless_error (set_clock_error (set_clock leaves)) (Ok (call.SetClock (set_clock leaves)))
 call_of name.Authenticate id leaves = Ok (call.Authenticate (authenticate_intent id leaves))
 
 -- what a request of this row is read as

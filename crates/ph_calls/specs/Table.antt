@@ -1,9 +1,9 @@
 -- The table of calls.
 use Rattle.std.specs.Prelude.{ℕ, Bool, true, false, List, [], ◌∷◌, map, codes}
 use Rattle.ph_kinds.specs.declared.kind.Kind.{Kind}
-use Rattle.ph_kinds.specs.declared.kind.Kind.TheVariants.{Amount, Currency, Truth, Text, Method, Metadata, CaptureMethod, CancellationReason, Authentication}
+use Rattle.ph_kinds.specs.declared.kind.Kind.TheVariants.{Amount, Number, Currency, Truth, Text, Id, Method, Metadata, CaptureMethod, CancellationReason, RefundReason, Authentication}
 use Rattle.ph_calls.specs.declared.row.Name.{Name}
-use Rattle.ph_calls.specs.declared.row.Name.TheVariants.{CreateIntent, GetIntent, UpdateIntent, ConfirmIntent, CaptureIntent, CancelIntent, Authenticate}
+use Rattle.ph_calls.specs.declared.row.Name.TheVariants.{CreateIntent, GetIntent, UpdateIntent, ConfirmIntent, CaptureIntent, CancelIntent, GetCharge, CreateRefund, GetRefund, GetDispute, SendEvidence, CloseDispute, GetBalance, GetTxn, SetClock, Authenticate}
 use Rattle.ph_calls.specs.declared.row.Param.{Param}
 use Rattle.ph_calls.specs.declared.row.Path.{Path}
 use Rattle.ph_calls.specs.declared.row.Path.TheVariants.{Plain, WithId}
@@ -104,6 +104,74 @@ table =
       method = codes "POST";
       path = Between (codes "/v1/payment_intents/") (codes "/cancel");
       params = may (codes "cancellation_reason") CancellationReason ∷ [];
+      ignored = [];
+    } ∷
+    record {
+      call = GetCharge;
+      method = codes "GET";
+      path = Between (codes "/v1/charges/") [];
+      params = [];
+      ignored = [];
+    } ∷
+    record {
+      call = CreateRefund;
+      method = codes "POST";
+      path = One (codes "/v1/refunds");
+      params =
+          may (codes "charge") Id ∷
+          may (codes "payment_intent") Id ∷
+          may (codes "amount") Amount ∷
+          may (codes "reason") RefundReason ∷
+          may (codes "metadata") Metadata ∷ [];
+      ignored = [];
+    } ∷
+    record {
+      call = GetRefund;
+      method = codes "GET";
+      path = Between (codes "/v1/refunds/") [];
+      params = [];
+      ignored = [];
+    } ∷
+    record {
+      call = GetDispute;
+      method = codes "GET";
+      path = Between (codes "/v1/disputes/") [];
+      params = [];
+      ignored = [];
+    } ∷
+    record {
+      call = SendEvidence;
+      method = codes "POST";
+      path = Between (codes "/v1/disputes/") [];
+      params = must (codes "evidence[uncategorized_text]") (Text 20000) ∷ [];
+      ignored = codes "submit" ∷ [];
+    } ∷
+    record {
+      call = CloseDispute;
+      method = codes "POST";
+      path = Between (codes "/v1/disputes/") (codes "/close");
+      params = [];
+      ignored = [];
+    } ∷
+    record {
+      call = GetBalance;
+      method = codes "GET";
+      path = One (codes "/v1/balance");
+      params = [];
+      ignored = [];
+    } ∷
+    record {
+      call = GetTxn;
+      method = codes "GET";
+      path = Between (codes "/v1/balance_transactions/") [];
+      params = [];
+      ignored = [];
+    } ∷
+    record {
+      call = SetClock;
+      method = codes "POST";
+      path = One (codes "/_host/clock");
+      params = must (codes "now") Number ∷ [];
       ignored = [];
     } ∷
     record {

@@ -3,7 +3,7 @@
 use ph_base::Bytes;
 use ph_kinds::{Authentication, Meta};
 use ph_money::{Amount, Currency};
-use ph_rows::{CancellationReason, CaptureMethod, PaymentMethod};
+use ph_rows::{CancellationReason, CaptureMethod, PaymentMethod, RefundReason};
 
 /// `POST /v1/payment_intents`
 #[derive(Drop, Debug)]
@@ -71,6 +71,74 @@ pub struct CancelIntent {
     pub cancellation_reason: Option<CancellationReason>,
 }
 
+/// `GET /v1/charges/{id}`
+#[derive(Drop, Debug)]
+pub struct GetCharge {
+    /// The segment of the path, which is read as an id when the call is carried out.
+    pub id: Bytes,
+}
+
+/// `POST /v1/refunds`, of a charge or of the latest charge of a payment intent: exactly one of the two is named.
+#[derive(Drop, Debug)]
+pub struct CreateRefund {
+    /// Read as an id when the call is carried out.
+    pub charge: Option<Bytes>,
+    /// Read as an id when the call is carried out.
+    pub payment_intent: Option<Bytes>,
+    /// In minor units of the charge's currency, not 0; all that is left to refund where none is named.
+    pub amount: Option<Amount>,
+    pub reason: Option<RefundReason>,
+    pub metadata: Option<Meta>,
+}
+
+/// `GET /v1/refunds/{id}`
+#[derive(Drop, Debug)]
+pub struct GetRefund {
+    /// The segment of the path, which is read as an id when the call is carried out.
+    pub id: Bytes,
+}
+
+/// `GET /v1/disputes/{id}`
+#[derive(Drop, Debug)]
+pub struct GetDispute {
+    /// The segment of the path, which is read as an id when the call is carried out.
+    pub id: Bytes,
+}
+
+/// `POST /v1/disputes/{id}`: evidence against a dispute.
+#[derive(Drop, Debug)]
+pub struct SendEvidence {
+    /// The segment of the path, which is read as an id when the call is carried out.
+    pub id: Bytes,
+    /// The parameter `evidence[uncategorized_text]`: at most 20,000 characters.
+    pub uncategorized_text: Bytes,
+}
+
+/// `POST /v1/disputes/{id}/close`: the dispute is given up.
+#[derive(Drop, Debug)]
+pub struct CloseDispute {
+    /// The segment of the path, which is read as an id when the call is carried out.
+    pub id: Bytes,
+}
+
+/// `GET /v1/balance`
+#[derive(Drop, Debug)]
+pub struct GetBalance {}
+
+/// `GET /v1/balance_transactions/{id}`
+#[derive(Drop, Debug)]
+pub struct GetTxn {
+    /// The segment of the path, which is read as an id when the call is carried out.
+    pub id: Bytes,
+}
+
+/// `POST /_host/clock`: payhost's own, which sets the time.
+#[derive(Drop, Debug)]
+pub struct SetClock {
+    /// In seconds since the beginning of 1970, at most 253402300799, the last second of the year 9999.
+    pub now: u64,
+}
+
 /// `POST /_host/payment_intents/{id}/authenticate`: payhost's own, in place of the customer's bank.
 #[derive(Drop, Debug)]
 pub struct Authenticate {
@@ -88,5 +156,14 @@ pub enum Call {
     ConfirmIntent(ConfirmIntent),
     CaptureIntent(CaptureIntent),
     CancelIntent(CancelIntent),
+    GetCharge(GetCharge),
+    CreateRefund(CreateRefund),
+    GetRefund(GetRefund),
+    GetDispute(GetDispute),
+    SendEvidence(SendEvidence),
+    CloseDispute(CloseDispute),
+    GetBalance(GetBalance),
+    GetTxn(GetTxn),
+    SetClock(SetClock),
     Authenticate(Authenticate),
 }

@@ -3,9 +3,12 @@
 
 mod call;
 mod check;
+mod clock;
+mod disputes;
 mod errors;
 mod intents;
 mod reading;
+mod refunds;
 mod route;
 mod row;
 mod table;
@@ -13,8 +16,9 @@ mod table;
 mod tests;
 
 pub use call::{
-    Authenticate, Call, CancelIntent, CaptureIntent, ConfirmIntent, CreateIntent, GetIntent,
-    UpdateIntent,
+    Authenticate, Call, CancelIntent, CaptureIntent, CloseDispute, ConfirmIntent, CreateIntent,
+    CreateRefund, GetBalance, GetCharge, GetDispute, GetIntent, GetRefund, GetTxn, SendEvidence,
+    SetClock, UpdateIntent,
 };
 pub use ph_kinds::Authentication;
 pub use reading::read_call;

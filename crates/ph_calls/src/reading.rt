@@ -2,16 +2,21 @@
 ghost use Rattle.std.specs.Prelude.{◌≡◌, IfErr, IfOk, Ok, Err};
 ghost use Rattle.ph_form.specs.Leaves.{leaves_of};
 ghost use Rattle.ph_form.specs.Pairs.{pairs_in};
-ghost use Rattle.ph_calls.specs.Reading.{Refuses, call_of, reading_by, reading_of};
+ghost use Rattle.ph_calls.specs.Reading.{Refuses, call_of, reading_by, reading_of, unless_error};
 ghost use Rattle.ph_calls.specs.Table.{line_of};
 
-use crate::call::{Call, GetIntent};
+use crate::call::{
+    Call, CloseDispute, GetBalance, GetCharge, GetDispute, GetIntent, GetRefund, GetTxn,
+};
 use crate::check::row_error;
+use crate::clock::{set_clock, set_clock_error};
+use crate::disputes::send_evidence;
 use crate::errors::fault_error;
 use crate::intents::{
     authenticate_intent, cancel_intent, capture_intent, confirm_intent, create_intent,
     create_intent_error, update_intent,
 };
+use crate::refunds::{create_refund, create_refund_error};
 use crate::route::find_route;
 use crate::row::{Name, TableRow};
 use ph_base::Bytes;
@@ -19,6 +24,17 @@ use ph_errors::{ApiError, Refusal};
 use ph_form::{Form, FormFault, read_form};
 use ph_http::Raw;
 use std::alloc::Global;
+
+/// The error, or else the call.
+fn unless_error(error: Option<ApiError>, call: Call) -> Result<Call, Refusal>
+    ensures call { IfOk result (λ made. unless_error error (Ok call) ≡ Ok made) }
+    ensures refusal { IfErr result (Refuses (unless_error error (Ok call))) }
+{
+    match error {
+        Some(error) => Err(Refusal::Api(error)),
+        None => Ok(call),
+    }
+}
 
 /// The call of a name, or the error of the first of its further checks.
 fn make_call(alloc: Global, name: Name, id: &[u8], form: &Form) -> Result<Call, Refusal>
@@ -28,10 +44,8 @@ fn make_call(alloc: Global, name: Name, id: &[u8], form: &Form) -> Result<Call, 
     match name {
         Name::CreateIntent => {
             let call = create_intent(alloc, form)?;
-            match create_intent_error(alloc, &call)? {
-                Some(error) => Err(Refusal::Api(error)),
-                None => Ok(Call::CreateIntent(call)),
-            }
+            let error = create_intent_error(alloc, &call)?;
+            unless_error(error, Call::CreateIntent(call))
         }
         Name::GetIntent => Ok(Call::GetIntent(GetIntent {
             id: Bytes::from_slice(alloc, id)?,
@@ -40,6 +54,33 @@ fn make_call(alloc: Global, name: Name, id: &[u8], form: &Form) -> Result<Call, 
         Name::ConfirmIntent => Ok(Call::ConfirmIntent(confirm_intent(alloc, id, form)?)),
         Name::CaptureIntent => Ok(Call::CaptureIntent(capture_intent(alloc, id, form)?)),
         Name::CancelIntent => Ok(Call::CancelIntent(cancel_intent(alloc, id, form)?)),
+        Name::GetCharge => Ok(Call::GetCharge(GetCharge {
+            id: Bytes::from_slice(alloc, id)?,
+        })),
+        Name::CreateRefund => {
+            let call = create_refund(alloc, form)?;
+            let error = create_refund_error(alloc, &call)?;
+            unless_error(error, Call::CreateRefund(call))
+        }
+        Name::GetRefund => Ok(Call::GetRefund(GetRefund {
+            id: Bytes::from_slice(alloc, id)?,
+        })),
+        Name::GetDispute => Ok(Call::GetDispute(GetDispute {
+            id: Bytes::from_slice(alloc, id)?,
+        })),
+        Name::SendEvidence => Ok(Call::SendEvidence(send_evidence(alloc, id, form)?)),
+        Name::CloseDispute => Ok(Call::CloseDispute(CloseDispute {
+            id: Bytes::from_slice(alloc, id)?,
+        })),
+        Name::GetBalance => Ok(Call::GetBalance(GetBalance {})),
+        Name::GetTxn => Ok(Call::GetTxn(GetTxn {
+            id: Bytes::from_slice(alloc, id)?,
+        })),
+        Name::SetClock => {
+            let call = set_clock(form);
+            let error = set_clock_error(alloc, &call)?;
+            unless_error(error, Call::SetClock(call))
+        }
         Name::Authenticate => Ok(Call::Authenticate(authenticate_intent(alloc, id, form)?)),
     }
 }

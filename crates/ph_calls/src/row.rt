@@ -11,6 +11,15 @@ pub enum Name {
     ConfirmIntent,
     CaptureIntent,
     CancelIntent,
+    GetCharge,
+    CreateRefund,
+    GetRefund,
+    GetDispute,
+    SendEvidence,
+    CloseDispute,
+    GetBalance,
+    GetTxn,
+    SetClock,
     Authenticate,
 }
 

@@ -27,7 +27,7 @@ macro_rules! may {
     };
 }
 
-static TABLE: [TableRow; 7] = [
+static TABLE: [TableRow; 16] = [
     TableRow {
         call: Name::CreateIntent,
         method: b"POST",
@@ -93,6 +93,75 @@ static TABLE: [TableRow; 7] = [
         method: b"POST",
         path: Path::WithId(b"/v1/payment_intents/", b"/cancel"),
         params: &[may!(b"cancellation_reason", Kind::CancellationReason)],
+        ignored: &[],
+    },
+    TableRow {
+        call: Name::GetCharge,
+        method: b"GET",
+        path: Path::WithId(b"/v1/charges/", b""),
+        params: &[],
+        ignored: &[],
+    },
+    TableRow {
+        call: Name::CreateRefund,
+        method: b"POST",
+        path: Path::Plain(b"/v1/refunds"),
+        params: &[
+            may!(b"charge", Kind::Id),
+            may!(b"payment_intent", Kind::Id),
+            may!(b"amount", Kind::Amount),
+            may!(b"reason", Kind::RefundReason),
+            may!(b"metadata", Kind::Metadata),
+        ],
+        ignored: &[],
+    },
+    TableRow {
+        call: Name::GetRefund,
+        method: b"GET",
+        path: Path::WithId(b"/v1/refunds/", b""),
+        params: &[],
+        ignored: &[],
+    },
+    TableRow {
+        call: Name::GetDispute,
+        method: b"GET",
+        path: Path::WithId(b"/v1/disputes/", b""),
+        params: &[],
+        ignored: &[],
+    },
+    TableRow {
+        call: Name::SendEvidence,
+        method: b"POST",
+        path: Path::WithId(b"/v1/disputes/", b""),
+        params: &[must!(b"evidence[uncategorized_text]", Kind::Text(20000))],
+        ignored: &[b"submit"],
+    },
+    TableRow {
+        call: Name::CloseDispute,
+        method: b"POST",
+        path: Path::WithId(b"/v1/disputes/", b"/close"),
+        params: &[],
+        ignored: &[],
+    },
+    TableRow {
+        call: Name::GetBalance,
+        method: b"GET",
+        path: Path::Plain(b"/v1/balance"),
+        params: &[],
+        ignored: &[],
+    },
+    TableRow {
+        call: Name::GetTxn,
+        method: b"GET",
+        path: Path::WithId(b"/v1/balance_transactions/", b""),
+        params: &[],
+        ignored: &[],
+    },
+    TableRow {
+        call: Name::SetClock,
+        method: b"POST",
+        path: Path::Plain(b"/_host/clock"),
+        params: &[must!(b"now", Kind::Number)],
         ignored: &[],
     },
     TableRow {

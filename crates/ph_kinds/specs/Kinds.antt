@@ -13,7 +13,7 @@ use Rattle.ph_kinds.specs.Events.{events_in}
 use Rattle.ph_kinds.specs.Metadata.{cleared_in, metadata_in}
 use Rattle.ph_kinds.specs.Methods.{method_in}
 use Rattle.ph_kinds.specs.Numbers.{amount_in, whole_in}
-use Rattle.ph_kinds.specs.Words.{authentication_in, cancellation_reason_in, capture_method_in, currency_in, truth_in}
+use Rattle.ph_kinds.specs.Words.{authentication_in, cancellation_reason_in, capture_method_in, currency_in, refund_reason_in, truth_in}
 
 -- an invalid value unless the test holds
 abbrev pub unless : Bool → Option Flaw
@@ -42,6 +42,7 @@ text_flaw kind.Events text = Some InvalidValue
 text_flaw kind.Address text = result_err (address_in text)
 text_flaw kind.CaptureMethod text = result_err (capture_method_in text)
 text_flaw kind.CancellationReason text = result_err (cancellation_reason_in text)
+text_flaw kind.RefundReason text = result_err (refund_reason_in text)
 text_flaw kind.Authentication text = result_err (authentication_in text)
 
 -- what is wrong with a map for a kind; none of its entries are known where one is a map itself
@@ -58,4 +59,5 @@ map_flaw kind.Events entries = result_err (events_in entries)
 map_flaw kind.Address entries = Some InvalidValue
 map_flaw kind.CaptureMethod entries = Some InvalidValue
 map_flaw kind.CancellationReason entries = Some InvalidValue
+map_flaw kind.RefundReason entries = Some InvalidValue
 map_flaw kind.Authentication entries = Some InvalidValue

@@ -3,7 +3,7 @@ use Rattle.std.specs.Prelude.{ℕ, Bool, true, false, if◌then◌else◌, List,
 use Rattle.std.specs.Str.{str_eq_ignore_ascii_case}
 use Rattle.ph_money.specs.declared.currencies.Currency.{Currency}
 use Rattle.ph_money.specs.Currencies.{currency_of}
-use Rattle.ph_rows.specs.Words.{cancellation_reason_text, capture_method_text}
+use Rattle.ph_rows.specs.Words.{cancellation_reason_text, capture_method_text, refund_reason_text}
 use Rattle.ph_kinds.specs.declared.authentication.Authentication.{Authentication}
 use Rattle.ph_kinds.specs.declared.authentication.Authentication.TheVariants.{Succeeded, Failed}
 use Rattle.ph_kinds.specs.declared.flaw.Flaw.{Flaw}
@@ -12,6 +12,8 @@ use Rattle.ph_rows.specs.declared.intents.CancellationReason.{CancellationReason
 use Rattle.ph_rows.specs.declared.intents.CancellationReason.TheVariants.{Duplicate, Fraudulent, RequestedByCustomer, Abandoned}
 use Rattle.ph_rows.specs.declared.intents.CaptureMethod.{CaptureMethod}
 use Rattle.ph_rows.specs.declared.intents.CaptureMethod.TheVariants.{Automatic, AutomaticAsync, Manual}
+use Rattle.ph_rows.specs.declared.refunds.RefundReason.{RefundReason}
+use Rattle.ph_rows.specs.declared.refunds.RefundReason.TheVariants as refund_reason
 
 -- a currency: its code, ASCII case ignored
 abbrev pub currency_in : List ℕ → Result Currency Flaw
@@ -38,6 +40,14 @@ cancellation_reasons = Duplicate ∷ Fraudulent ∷ RequestedByCustomer ∷ Aban
 -- a reason for a cancel: its word
 abbrev pub cancellation_reason_in : List ℕ → Result CancellationReason Flaw
 cancellation_reason_in text = ok_or (find (λ reason. bytes_eq text (cancellation_reason_text reason)) cancellation_reasons) InvalidValue
+
+-- every reason for a refund
+abbrev pub refund_reasons : List RefundReason
+refund_reasons = refund_reason.Duplicate ∷ refund_reason.Fraudulent ∷ refund_reason.RequestedByCustomer ∷ []
+
+-- a reason for a refund: its word
+abbrev pub refund_reason_in : List ℕ → Result RefundReason Flaw
+refund_reason_in text = ok_or (find (λ reason. bytes_eq text (refund_reason_text reason)) refund_reasons) InvalidValue
 
 -- what an authentication comes to: `succeeded` or `failed`
 unfoldable pub authentication_in : List ℕ → Result Authentication Flaw

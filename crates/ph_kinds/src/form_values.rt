@@ -3,7 +3,7 @@ ghost use Rattle.std.specs.Prelude.{◌≡◌, IfOk};
 ghost use Rattle.ph_form.specs.Readers.{text_at};
 ghost use Rattle.ph_kinds.specs.Kinds.{address_in};
 ghost use Rattle.ph_kinds.specs.Numbers.{amount_in, whole_in};
-ghost use Rattle.ph_kinds.specs.Words.{authentication_in, cancellation_reason_in, capture_method_in, currency_in};
+ghost use Rattle.ph_kinds.specs.Words.{authentication_in, cancellation_reason_in, capture_method_in, currency_in, refund_reason_in};
 ghost use Rattle.ph_kinds.specs.Values.{events_at, metadata_at, payment_method_at, truth_at, value_at};
 
 use crate::authentication::Authentication;
@@ -13,13 +13,14 @@ use crate::metadata::{Meta, is_metadata, pairs_of};
 use crate::methods::read_method;
 use crate::numbers::{read_amount, read_whole};
 use crate::words::{
-    read_authentication, read_cancellation_reason, read_capture_method, read_currency, read_truth,
+    read_authentication, read_cancellation_reason, read_capture_method, read_currency,
+    read_refund_reason, read_truth,
 };
 use ph_address::{Address, read_address};
 use ph_base::{Bytes, NoMemory};
 use ph_form::Form;
 use ph_money::{Amount, Currency};
-use ph_rows::{CancellationReason, CaptureMethod, PaymentMethod};
+use ph_rows::{CancellationReason, CaptureMethod, PaymentMethod, RefundReason};
 use std::alloc::Global;
 
 /// The amount under a name.
@@ -65,6 +66,13 @@ pub fn cancellation_reason_at(form: &Form, name: &[u8]) -> Option<CancellationRe
     ensures { result ≡ value_at cancellation_reason_in name.now form.now }
 {
     read_cancellation_reason(form.text(name)?).ok()
+}
+
+/// The reason for a refund under a name.
+pub fn refund_reason_at(form: &Form, name: &[u8]) -> Option<RefundReason>
+    ensures { result ≡ value_at refund_reason_in name.now form.now }
+{
+    read_refund_reason(form.text(name)?).ok()
 }
 
 /// What an authentication comes to, under a name.

@@ -27,6 +27,8 @@ pub enum Kind {
     CaptureMethod,
     /// `duplicate`, `fraudulent`, `requested_by_customer` or `abandoned`.
     CancellationReason,
+    /// `duplicate`, `fraudulent` or `requested_by_customer`.
+    RefundReason,
     /// `succeeded` or `failed`.
     Authentication,
 }

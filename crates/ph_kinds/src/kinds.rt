@@ -12,7 +12,8 @@ use crate::metadata::is_metadata;
 use crate::methods::read_method;
 use crate::numbers::{read_amount, read_whole};
 use crate::words::{
-    read_authentication, read_cancellation_reason, read_capture_method, read_currency, read_truth,
+    read_authentication, read_cancellation_reason, read_capture_method, read_currency,
+    read_refund_reason, read_truth,
 };
 use ph_address::read_address;
 use ph_base::NoMemory;
@@ -48,6 +49,7 @@ pub fn text_flaw(alloc: Global, kind: Kind, text: &[u8]) -> Result<Option<Flaw>,
         Kind::Address => unless(read_address(alloc, text)?.is_some()),
         Kind::CaptureMethod => read_capture_method(text).err(),
         Kind::CancellationReason => read_cancellation_reason(text).err(),
+        Kind::RefundReason => read_refund_reason(text).err(),
         Kind::Authentication => read_authentication(text).err(),
     };
     Ok(flaw)
@@ -77,6 +79,7 @@ pub fn map_flaw(kind: Kind, entries: Option<&[Leaf]>) -> Option<Flaw>
         | Kind::Address
         | Kind::CaptureMethod
         | Kind::CancellationReason
+        | Kind::RefundReason
         | Kind::Authentication => Some(Flaw::InvalidValue),
     }
 }

@@ -6,6 +6,7 @@ mod characters;
 mod events;
 mod flaw;
 mod form_values;
+mod kept;
 mod kind;
 mod kinds;
 mod lists;
@@ -21,8 +22,10 @@ pub use characters::character_count;
 pub use flaw::Flaw;
 pub use form_values::{
     address_at, amount_at, authentication_at, cancellation_reason_at, capture_method_at,
-    currency_at, events_at, metadata_at, number_at, payment_method_at, text_at, truth_at,
+    currency_at, events_at, metadata_at, number_at, payment_method_at, refund_reason_at, text_at,
+    truth_at,
 };
+pub use kept::first_metadata;
 pub use kind::Kind;
 pub use kinds::{map_flaw, text_flaw};
 pub use lists::{Pairs, Texts};
@@ -30,5 +33,6 @@ pub use metadata::Meta;
 pub use methods::read_method;
 pub use numbers::{read_amount, read_whole};
 pub use words::{
-    read_authentication, read_cancellation_reason, read_capture_method, read_currency, read_truth,
+    read_authentication, read_cancellation_reason, read_capture_method, read_currency,
+    read_refund_reason, read_truth,
 };

@@ -3,7 +3,7 @@
 use crate::*;
 use ph_base::{Method, NoMemory};
 use ph_form::{Form, FormFault, read_form};
-use ph_rows::{CancellationReason, CaptureMethod};
+use ph_rows::{CancellationReason, CaptureMethod, RefundReason};
 use std::alloc::Global;
 use std::process::Abort;
 use std::test::Fail;
@@ -21,7 +21,7 @@ fn has_flaw(rt: &impl Abort, alloc: Global, kind: Kind, text: &[u8], want: Optio
 
 #[test]
 fn texts_that_kinds_take(rt: HostRuntime) -> Result<(), Fail> {
-    let rows: [(Kind, &[u8]); 31] = [
+    let rows: [(Kind, &[u8]); 34] = [
         (Kind::Amount, b"0"),
         (Kind::Amount, b"99999999"),
         (Kind::Amount, b"0000000000099999999"),
@@ -51,6 +51,9 @@ fn texts_that_kinds_take(rt: HostRuntime) -> Result<(), Fail> {
         (Kind::CancellationReason, b"fraudulent"),
         (Kind::CancellationReason, b"requested_by_customer"),
         (Kind::CancellationReason, b"abandoned"),
+        (Kind::RefundReason, b"duplicate"),
+        (Kind::RefundReason, b"fraudulent"),
+        (Kind::RefundReason, b"requested_by_customer"),
         (Kind::Authentication, b"succeeded"),
         (Kind::Authentication, b"failed"),
     ];
@@ -62,7 +65,7 @@ fn texts_that_kinds_take(rt: HostRuntime) -> Result<(), Fail> {
 
 #[test]
 fn texts_that_kinds_refuse(rt: HostRuntime) -> Result<(), Fail> {
-    let rows: [(Kind, &[u8], Flaw); 38] = [
+    let rows: [(Kind, &[u8], Flaw); 42] = [
         (Kind::Amount, b"", Flaw::InvalidInteger),
         (Kind::Amount, b"-1", Flaw::InvalidInteger),
         (Kind::Amount, b"+1", Flaw::InvalidInteger),
@@ -109,6 +112,10 @@ fn texts_that_kinds_refuse(rt: HostRuntime) -> Result<(), Fail> {
         (Kind::CancellationReason, b"", Flaw::InvalidValue),
         (Kind::CancellationReason, b"Duplicate", Flaw::InvalidValue),
         (Kind::CancellationReason, b"automatic", Flaw::InvalidValue),
+        (Kind::RefundReason, b"", Flaw::InvalidValue),
+        (Kind::RefundReason, b"Duplicate", Flaw::InvalidValue),
+        (Kind::RefundReason, b"fraudulent ", Flaw::InvalidValue),
+        (Kind::RefundReason, b"abandoned", Flaw::InvalidValue),
         (Kind::Authentication, b"", Flaw::InvalidValue),
         (Kind::Authentication, b"Succeeded", Flaw::InvalidValue),
         (Kind::Authentication, b"failed ", Flaw::InvalidValue),
@@ -135,6 +142,7 @@ fn maps_that_kinds_refuse(rt: HostRuntime) -> Result<(), Fail> {
         (Kind::Address, Flaw::InvalidValue),
         (Kind::CaptureMethod, Flaw::InvalidValue),
         (Kind::CancellationReason, Flaw::InvalidValue),
+        (Kind::RefundReason, Flaw::InvalidValue),
         (Kind::Authentication, Flaw::InvalidValue),
     ];
     for (kind, flaw) in rows {
@@ -183,6 +191,11 @@ fn values(rt: &impl Abort, alloc: Global, form: &Form) -> Result<(), NoMemory> {
     );
     assert_eq!(rt; cancellation_reason_at(form, b"capture_method"), None);
     assert_eq!(rt;
+        refund_reason_at(form, b"refund_reason"),
+        Some(RefundReason::Fraudulent)
+    );
+    assert_eq!(rt; refund_reason_at(form, b"reason"), None);
+    assert_eq!(rt;
         authentication_at(form, b"outcome"),
         Some(Authentication::Succeeded)
     );
@@ -222,7 +235,7 @@ fn values(rt: &impl Abort, alloc: Global, form: &Form) -> Result<(), NoMemory> {
 #[test]
 fn values_of_a_form(rt: HostRuntime) -> Result<(), Fail> {
     let body =
-        b"now=1700000000&connect=True&capture_method=manual&reason=abandoned&outcome=succeeded&url=http://h:4242/&enabled_events[1]=*&enabled_events[0]=charge.failed&other_events[]=nothing&metadata[a]=1&payment_method=pm_payhost_slow_3&id=pi_1";
+        b"now=1700000000&connect=True&capture_method=manual&reason=abandoned&refund_reason=fraudulent&outcome=succeeded&url=http://h:4242/&enabled_events[1]=*&enabled_events[0]=charge.failed&other_events[]=nothing&metadata[a]=1&payment_method=pm_payhost_slow_3&id=pi_1";
     match read_form(rt.alloc(), b"", body) {
         Ok(form) => match values(&rt, rt.alloc(), &form) {
             Ok(()) => {}

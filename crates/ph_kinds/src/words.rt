@@ -1,11 +1,11 @@
 //! Words that parameters take.
 ghost use Rattle.std.specs.Prelude.{◌≡◌};
-ghost use Rattle.ph_kinds.specs.Words.{authentication_in, cancellation_reason_in, capture_method_in, currency_in, truth_in};
+ghost use Rattle.ph_kinds.specs.Words.{authentication_in, cancellation_reason_in, capture_method_in, currency_in, refund_reason_in, truth_in};
 
 use crate::authentication::Authentication;
 use crate::flaw::Flaw;
 use ph_money::Currency;
-use ph_rows::{CancellationReason, CaptureMethod};
+use ph_rows::{CancellationReason, CaptureMethod, RefundReason};
 
 const CAPTURE_METHODS: [CaptureMethod; 3] = [
     CaptureMethod::Automatic,
@@ -18,6 +18,12 @@ const CANCELLATION_REASONS: [CancellationReason; 4] = [
     CancellationReason::Fraudulent,
     CancellationReason::RequestedByCustomer,
     CancellationReason::Abandoned,
+];
+
+const REFUND_REASONS: [RefundReason; 3] = [
+    RefundReason::Duplicate,
+    RefundReason::Fraudulent,
+    RefundReason::RequestedByCustomer,
 ];
 
 /// The currency whose code a text is, ASCII case ignored.
@@ -56,6 +62,17 @@ pub fn read_cancellation_reason(text: &[u8]) -> Result<CancellationReason, Flaw>
     ensures { result ≡ cancellation_reason_in text.now }
 {
     CANCELLATION_REASONS
+        .iter()
+        .copied()
+        .find(|reason| text == reason.text())
+        .ok_or(Flaw::InvalidValue)
+}
+
+/// The reason for a refund whose word a text is.
+pub fn read_refund_reason(text: &[u8]) -> Result<RefundReason, Flaw>
+    ensures { result ≡ refund_reason_in text.now }
+{
+    REFUND_REASONS
         .iter()
         .copied()
         .find(|reason| text == reason.text())

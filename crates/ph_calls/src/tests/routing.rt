@@ -53,7 +53,7 @@ fn routes(rt: HostRuntime) -> Result<(), Fail> {
         POST v1/payment_intents & &                        404 - Unrecognized request URL.
         POST http://h/v1/payment_intents & &               404 - Unrecognized request URL.
         DELETE /v1/payment_intents/x & &                   404 - Unrecognized request URL.
-        POST /v1/refunds & [a]=1                           404 - Unrecognized request URL.
+        POST /v1/transfers & [a]=1                         404 - Unrecognized request URL.
         GET * & &                                          404 - Unrecognized request URL.
     ";
     each_is_routed(&rt, rt.alloc(), table);
@@ -111,6 +111,86 @@ fn no_routes_of_a_payment_intent(rt: HostRuntime) -> Result<(), Fail> {
         GET /_host/payment_intents/x & &                    404 - Unrecognized request URL.
         POST /v1/payment_intents/x/confirm & [a]=1&foo=2    400 - Invalid parameter name at place 0.
         POST /v1/payment_intents/x/confirms & [a]=1         404 - Unrecognized request URL.
+    ";
+    each_is_routed(&rt, rt.alloc(), table);
+    Ok(())
+}
+
+#[test]
+fn routes_of_money(rt: HostRuntime) -> Result<(), Fail> {
+    let table = "
+        GET /v1/charges/ch_0000000000000004 & &                  get charge ch_0000000000000004
+        GET /v1/charges/x expand[]=refunds &                     get charge x
+        GET /v1/charges/x limit=1 &                              400 parameter_unknown limit
+        POST /v1/refunds charge=x amount=1                       refund charge=x amount=1
+        GET /v1/refunds/re_0000000000000008 & &                  get refund re_0000000000000008
+        GET /v1/refunds/x & charge=x                             400 parameter_unknown charge
+        GET /v1/disputes/dp_0000000000000006 & &                 get dispute dp_0000000000000006
+        GET /v1/disputes/close & &                               get dispute close
+        GET /v1/disputes/x submit=true &                         400 parameter_unknown submit
+        POST /v1/disputes/x & evidence[uncategorized_text]=y     evidence x text=y
+        POST /v1/disputes/close & &                              400 parameter_missing evidence[uncategorized_text]
+        POST /v1/disputes/x/close & &                            close x
+        POST /v1/disputes/close/close & &                        close close
+        GET /v1/balance & &                                      get balance
+        GET /v1/balance expand[]=x &                             get balance
+        GET /v1/balance currency=usd &                           400 parameter_unknown currency
+        GET /v1/balance_transactions/txn_0000000000000005 & &    get transaction txn_0000000000000005
+        GET /v1/balance_transactions/x type=charge &             400 parameter_unknown type
+        POST /_host/clock now=1 &                                clock 1
+        POST /_host/clock & now=1                                clock 1
+    ";
+    each_is_routed(&rt, rt.alloc(), table);
+    Ok(())
+}
+
+#[test]
+fn no_routes_of_money(rt: HostRuntime) -> Result<(), Fail> {
+    // Another method, no id, a segment more or fewer, another case, another front.
+    let table = "
+        POST /v1/charges/x & &                  404 - Unrecognized request URL.
+        DELETE /v1/charges/x & &                404 - Unrecognized request URL.
+        GET /v1/charges & &                     404 - Unrecognized request URL.
+        GET /v1/charges/ & &                    404 - Unrecognized request URL.
+        GET /v1/charges/x/ & &                  404 - Unrecognized request URL.
+        GET /v1/charges/x/refunds & &           404 - Unrecognized request URL.
+        POST /v1/charges/x/capture & &          404 - Unrecognized request URL.
+        GET /v1/refunds & &                     404 - Unrecognized request URL.
+        PUT /v1/refunds & charge=x              404 - Unrecognized request URL.
+        POST /v1/refunds/ & charge=x            404 - Unrecognized request URL.
+        POST /v1/refunds/x & &                  404 - Unrecognized request URL.
+        POST /v1/refunds/x/cancel & &           404 - Unrecognized request URL.
+        GET /v1/refunds/ & &                    404 - Unrecognized request URL.
+        GET /v1/refunds/x/y & &                 404 - Unrecognized request URL.
+        GET /v1/disputes & &                    404 - Unrecognized request URL.
+        GET /v1/disputes/ & &                   404 - Unrecognized request URL.
+        GET /v1/disputes/x/y & &                404 - Unrecognized request URL.
+        POST /v1/disputes & &                   404 - Unrecognized request URL.
+        POST /v1/disputes/ & &                  404 - Unrecognized request URL.
+        POST /v1/disputes/x/ & &                404 - Unrecognized request URL.
+        POST /v1/disputes//close & &            404 - Unrecognized request URL.
+        POST /v1/disputes/x/close/ & &          404 - Unrecognized request URL.
+        POST /v1/disputes/x/close/y & &         404 - Unrecognized request URL.
+        POST /v1/disputes/x/y/close & &         404 - Unrecognized request URL.
+        POST /v1/disputes/x/Close & &           404 - Unrecognized request URL.
+        POST /v1/disputes/x/closed & &          404 - Unrecognized request URL.
+        GET /v1/disputes/x/close & &            404 - Unrecognized request URL.
+        POST /v1/balance & &                    404 - Unrecognized request URL.
+        GET /v1/balance/ & &                    404 - Unrecognized request URL.
+        GET /v1/balance/x & &                   404 - Unrecognized request URL.
+        GET /v1/Balance & &                     404 - Unrecognized request URL.
+        GET /_host/balance & &                  404 - Unrecognized request URL.
+        GET /v1/balance_transactions & &        404 - Unrecognized request URL.
+        GET /v1/balance_transactions/ & &       404 - Unrecognized request URL.
+        GET /v1/balance_transactions/x/y & &    404 - Unrecognized request URL.
+        POST /v1/balance_transactions/x & &     404 - Unrecognized request URL.
+        GET /_host/clock & &                    404 - Unrecognized request URL.
+        PUT /_host/clock & now=1                404 - Unrecognized request URL.
+        POST /_host/clock/ & now=1              404 - Unrecognized request URL.
+        POST /_host/clock/1 & now=1             404 - Unrecognized request URL.
+        POST /v1/clock & now=1                  404 - Unrecognized request URL.
+        POST /v1/disputes/x/close & [a]=1       400 - Invalid parameter name at place 0.
+        POST /v1/disputes/x/closed & [a]=1      404 - Unrecognized request URL.
     ";
     each_is_routed(&rt, rt.alloc(), table);
     Ok(())

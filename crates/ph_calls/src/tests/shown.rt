@@ -2,7 +2,7 @@
 
 use crate::{
     Authenticate, Authentication, Call, CancelIntent, CaptureIntent, ConfirmIntent, CreateIntent,
-    UpdateIntent, read_call,
+    CreateRefund, GetBalance, SendEvidence, SetClock, UpdateIntent, read_call,
 };
 use ph_base::{Bytes, NoMemory};
 use ph_errors::{ApiError, Refusal};
@@ -139,6 +139,33 @@ fn authenticate_text(alloc: Global, call: &Authenticate) -> Result<Vec<u8>, NoMe
     Ok(shown)
 }
 
+/// A refund as `refund`, and ` name=value` for each parameter that it has.
+fn refund_text(alloc: Global, call: &CreateRefund) -> Result<Vec<u8>, NoMemory> {
+    let mut shown = Vec::from_slice(alloc, b"refund")?;
+    add_text(&mut shown, b"charge", &call.charge)?;
+    add_text(&mut shown, b"intent", &call.payment_intent)?;
+    add_amount(alloc, &mut shown, b"amount", call.amount)?;
+    match call.reason {
+        Some(reason) => add(&mut shown, b"reason", reason.text())?,
+        None => {}
+    }
+    add_metadata(&mut shown, &call.metadata)?;
+    Ok(shown)
+}
+
+fn evidence_text(alloc: Global, call: &SendEvidence) -> Result<Vec<u8>, NoMemory> {
+    let mut shown = with_id(alloc, b"evidence", &call.id)?;
+    add(&mut shown, b"text", call.uncategorized_text.as_slice())?;
+    Ok(shown)
+}
+
+fn clock_text(alloc: Global, call: &SetClock) -> Result<Vec<u8>, NoMemory> {
+    let mut shown = Vec::from_slice(alloc, b"clock ")?;
+    let digits = number(alloc, call.now)?;
+    shown.extend_from_slice(&digits)?;
+    Ok(shown)
+}
+
 /// An error as `STATUS CODE PARAM`, with `-` for no code, and its message in place of a parameter that isn't there.
 fn error_text(alloc: Global, error: &ApiError) -> Result<Vec<u8>, NoMemory> {
     let mut shown = number(alloc, u64::from(error.status))?;
@@ -184,6 +211,15 @@ fn read_text(alloc: Global, raw: &Raw) -> Result<Vec<u8>, NoMemory> {
         Ok(Call::ConfirmIntent(call)) => confirm_text(alloc, &call),
         Ok(Call::CaptureIntent(call)) => capture_text(alloc, &call),
         Ok(Call::CancelIntent(call)) => cancel_text(alloc, &call),
+        Ok(Call::GetCharge(call)) => with_id(alloc, b"get charge", &call.id),
+        Ok(Call::CreateRefund(call)) => refund_text(alloc, &call),
+        Ok(Call::GetRefund(call)) => with_id(alloc, b"get refund", &call.id),
+        Ok(Call::GetDispute(call)) => with_id(alloc, b"get dispute", &call.id),
+        Ok(Call::SendEvidence(call)) => evidence_text(alloc, &call),
+        Ok(Call::CloseDispute(call)) => with_id(alloc, b"close", &call.id),
+        Ok(Call::GetBalance(GetBalance {})) => Ok(Vec::from_slice(alloc, b"get balance")?),
+        Ok(Call::GetTxn(call)) => with_id(alloc, b"get transaction", &call.id),
+        Ok(Call::SetClock(call)) => clock_text(alloc, &call),
         Ok(Call::Authenticate(call)) => authenticate_text(alloc, &call),
         Err(Refusal::Api(error)) => error_text(alloc, &error),
         Err(Refusal::NoMemory) => Err(NoMemory),

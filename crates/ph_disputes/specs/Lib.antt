@@ -1,0 +1,6 @@
+pub mod Answers
+pub mod Closing
+pub mod Due
+pub mod Finding
+pub mod Laws
+pub mod Opening

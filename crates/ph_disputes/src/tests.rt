@@ -1,0 +1,5 @@
+//! Disputes over the rows of one payment.
+
+mod answered;
+mod opened;
+mod rows;

@@ -1,0 +1,4 @@
+pub mod Entry
+pub mod Finding
+pub mod Laws
+pub mod Refunds
