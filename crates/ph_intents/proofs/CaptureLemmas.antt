@@ -26,7 +26,7 @@ use Rattle.ph_rows.proofs.ChargeLemmas.{second_fails}
 use Rattle.ph_rows.proofs.HeldLemmas.{AllLeave, another_is_apart, held_known}
 use Rattle.ph_rows.proofs.UnderwayLemmas.{IsUnderway, underway_further, underway_told}
 use Rattle.ph_intents.specs.Capture.{capture_of, capture_outcome, capture_amount, received_intent, with_charge_captured}
-use Rattle.ph_calls.specs.Keeps.{AddsSound, IsReady, KeepsSound, batch_after, no_texts}
+use Rattle.ph_intents.specs.Keeps.{AddsSound, IsReady, KeepsSound, batch_after, no_texts}
 use Rattle.ph_intents.specs.Refusals.{invalid_value}
 use Rattle.ph_intents.specs.Statuses.{next_status}
 use Rattle.ph_intents.specs.Versions.{adds_told, with_told}

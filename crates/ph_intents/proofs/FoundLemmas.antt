@@ -25,7 +25,7 @@ use Rattle.ph_rows.proofs.FoundLemmas.{owned_found}
 use Rattle.ph_rows.proofs.SoundLemmas.{row_at_within}
 use Rattle.ph_rows.proofs.UnderwayLemmas.{IsUnderway, underway_further}
 use Rattle.ph_intents.specs.Attempts.{attempted}
-use Rattle.ph_calls.specs.Keeps.{AddsSound, AreUtf8, IsReady, batch_after}
+use Rattle.ph_intents.specs.Keeps.{AddsSound, AreUtf8, IsReady, batch_after}
 use Rattle.ph_intents.specs.Refusals.{made_of, made_of_row, made_at, if_allowed}
 use Rattle.ph_intents.specs.Versions.{adds_told, with_version}
 use Rattle.ph_intents.proofs.EnterLemmas.{Waits, attempted_enters, begins, told_enters, version_enters}

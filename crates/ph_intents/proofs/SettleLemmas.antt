@@ -38,8 +38,7 @@ use Rattle.ph_rows.proofs.HeldLemmas.{AllLeave, IsApart, Leaves, held_known, lat
 use Rattle.ph_rows.proofs.MoveLemmas.{is_of_dispute}
 use Rattle.ph_rows.proofs.SoundLemmas.{latest_of_sound, row_at_within}
 use Rattle.ph_rows.proofs.UnderwayLemmas.{IsUnderway, underway_further, underway_told}
-use Rattle.ph_calls.specs.Keeps.{AddsSound, AreUtf8, IsReady, batch_after}
-use Rattle.ph_intents.specs.Keeps.{SettleKeepsSound}
+use Rattle.ph_intents.specs.Keeps.{AddsSound, AreUtf8, IsReady, SettleKeepsSound, batch_after}
 use Rattle.ph_intents.specs.Settle.{settled_attempt, approved_intent, approved_event, charge_after, ruled_intent, settled_intent, settled_event, settle_both, settle_intent, settle_attempt, settle_row, with_charge, with_latest_charge, with_ruling, with_settled}
 use Rattle.ph_intents.specs.Versions.{with_told}
 use Rattle.ph_intents.proofs.EnterLemmas.{begins, enters, last_version, other_version}

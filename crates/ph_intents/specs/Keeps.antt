@@ -1,14 +1,14 @@
--- What the operations on payment intents keep of their calls, and what a ruling keeps sound.
+-- What the operations add may be entered after sound rows, which stay sound.
 use Rattle.std.specs.Prelude.{ℕ, List, []}
 use Rattle.ph_base.specs.declared.acquirer.Ruling.{Ruling}
 use Rattle.ph_calls.specs.declared.call.ConfirmIntent.{ConfirmIntent}
 use Rattle.ph_calls.specs.declared.call.CreateIntent.{CreateIntent}
 use Rattle.ph_calls.specs.declared.call.UpdateIntent.{UpdateIntent}
-use Rattle.ph_calls.specs.Keeps.{AddsSound, IsReady, batch_after}
 use Rattle.ph_kinds.specs.Kept.{named_texts}
 use Rattle.ph_rows.specs.Views.{ViewState}
 use Rattle.ph_rows.specs.Weights.{with_text, method_text}
 use Rattle.ph_intents.specs.Settle.{settle_outcome}
+pub use Rattle.ph_calls.specs.Keeps.{AddsSound, AreUtf8, IsReady, KeepsSound, batch_after, no_texts}
 
 -- the texts of each call that its rows keep
 abbrev pub create_texts : CreateIntent → List (List ℕ)

@@ -4,8 +4,7 @@ ghost use Rattle.ph_intents.specs.Cancel.{cancel_outcome};
 ghost use Rattle.ph_intents.specs.Capture.{capture_outcome};
 ghost use Rattle.ph_intents.specs.Confirm.{confirm_outcome};
 ghost use Rattle.ph_intents.specs.Create.{create_confirmed_outcome, create_outcome};
-ghost use Rattle.ph_calls.specs.Keeps.{KeepsSound, no_texts};
-ghost use Rattle.ph_intents.specs.Keeps.{SettleKeepsSound, confirm_texts, create_texts, update_texts};
+ghost use Rattle.ph_intents.specs.Keeps.{KeepsSound, SettleKeepsSound, confirm_texts, create_texts, no_texts, update_texts};
 ghost use Rattle.ph_intents.specs.Laws.{BegunIsAsked};
 ghost use Rattle.ph_intents.specs.Update.{update_outcome};
 
