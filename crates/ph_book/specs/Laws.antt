@@ -1,13 +1,33 @@
 -- What holds of the rows of every legal history.
-use Rattle.std.specs.Prelude.{◌≡◌, ℕ, List, Some}
+use Rattle.std.specs.Prelude.{◌≡◌, ℕ, pos, ◌+ℤ◌, ◌≤ℤ◌, List, Some}
+use Rattle.ph_money.specs.declared.currencies.Currency.{Currency}
 use Rattle.ph_rows.specs.declared.rows.Row.{Row}
+use Rattle.ph_rows.specs.declared.charges.Charge.{Charge}
+use Rattle.ph_rows.specs.declared.items.Item.TheVariants as item
+use Rattle.ph_rows.specs.Balances.{available_of, movements_of, net_of, pending_of}
 use Rattle.ph_rows.specs.Kinds.{kind_of}
-use Rattle.ph_rows.specs.Rows.{row_at}
+use Rattle.ph_rows.specs.Rows.{latest_of, row_at}
+use Rattle.ph_rows.specs.Sound.{HaveMoves}
+use Rattle.ph_rows.specs.Transactions.{captured_of, refunded_of}
 use Rattle.ph_views.specs.Values.{printed_id}
 
 -- the printed id of a row's object
 abbrev pub id_of : Row → List ℕ
 id_of row = printed_id (kind_of row.item) row.object
+
+-- in each account and currency, what is available and what is pending are together the sum of what the transactions move, whatever the time
+abbrev pub BalancesAreSums : List Row → Type 0
+BalancesAreSums rows = (account : ℕ) (currency : Currency) (time : ℕ)
+    → available_of account currency time rows +ℤ pending_of account currency time rows ≡ net_of (movements_of account currency rows)
+
+-- the refunds of a charge add up to no more than what was captured of it
+abbrev pub RefundsFit : List Row → Type 0
+RefundsFit rows = (object : ℕ) (row : Row) (charge : Charge) → latest_of object rows ≡ Some row → row.item ≡ item.Charge charge
+    → pos (refunded_of object rows) ≤ℤ captured_of object rows
+
+-- the transactions of a dispute are one that takes its amount and the fee, and one that gives the amount back exactly where it is won
+abbrev pub DisputesMoveOnce : List Row → Type 0
+DisputesMoveOnce rows = HaveMoves rows
 
 -- first versions at different places have different ids
 abbrev pub HaveDifferentIds : List Row → Type 0

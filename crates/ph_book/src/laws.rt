@@ -2,7 +2,7 @@
 ghost use Rattle.std.specs.Prelude.{◌<◌, ◌^◌};
 ghost use Rattle.ph_book.specs.History.{rows_of};
 ghost use Rattle.ph_book.specs.Legal.{IsLegal};
-ghost use Rattle.ph_book.specs.Laws.{HaveDifferentIds};
+ghost use Rattle.ph_book.specs.Laws.{BalancesAreSums, DisputesMoveOnce, HaveDifferentIds, RefundsFit};
 
 use crate::acts::Entry;
 use crate::book::Book;
@@ -24,6 +24,32 @@ fn few_entries(_entries: u32)
 pub fn ids_differ(setup: &Setup, _history: &[Entry])
     requires { IsLegal setup.now _history.now }
     ensures { HaveDifferentIds (rows_of setup.now _history.now) }
+{
+    few_entries(setup.entries);
+}
+
+/// What is available of an account in a currency and what is pending are together the sum of amount less fee over its
+/// transactions, whatever the time: moving the clock changes no total.
+pub fn balances_are_sums(setup: &Setup, _history: &[Entry])
+    requires { IsLegal setup.now _history.now }
+    ensures { BalancesAreSums (rows_of setup.now _history.now) }
+{
+    few_entries(setup.entries);
+}
+
+/// The refunds of a charge never add up to more than what was captured of it.
+pub fn refunds_fit(setup: &Setup, _history: &[Entry])
+    requires { IsLegal setup.now _history.now }
+    ensures { RefundsFit (rows_of setup.now _history.now) }
+{
+    few_entries(setup.entries);
+}
+
+/// A dispute has one transaction, which takes its amount and the fee, and a second one, which gives the amount back,
+/// exactly where it is won.
+pub fn disputes_move_once(setup: &Setup, _history: &[Entry])
+    requires { IsLegal setup.now _history.now }
+    ensures { DisputesMoveOnce (rows_of setup.now _history.now) }
 {
     few_entries(setup.entries);
 }

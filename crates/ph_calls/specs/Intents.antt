@@ -1,5 +1,5 @@
 -- The calls on payment intents, from the forms of their requests.
-use Rattle.std.specs.Prelude.{ℕ, Bool, nat_lt, ◌&&◌, is_none, if◌then◌else◌, List, [], ◌∷◌, Option, Some, None, unwrap_or, codes}
+use Rattle.std.specs.Prelude.{ℕ, nat_lt, ◌&&◌, is_none, List, [], ◌∷◌, Option, unwrap_or, codes}
 use Rattle.ph_errors.specs.declared.api_error.ApiError.{ApiError}
 use Rattle.ph_errors.specs.Table.{AmountTooSmall, ParameterMissing, error_of}
 use Rattle.ph_form.specs.declared.leaf.Leaf.{Leaf}

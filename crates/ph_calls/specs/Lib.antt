@@ -2,6 +2,7 @@ pub mod Table
 pub mod Routes
 pub mod Check
 pub mod Intents
+pub mod Keeps
 pub mod Refunds
 pub mod Disputes
 pub mod Clock

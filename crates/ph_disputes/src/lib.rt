@@ -6,10 +6,10 @@ mod closing;
 mod due;
 mod finding;
 mod opening;
+#[cfg(test)]
+mod tests;
 
 pub use answers::evidence;
 pub use closing::close;
 pub use due::open_due;
 pub use opening::open;
-#[cfg(test)]
-mod tests;

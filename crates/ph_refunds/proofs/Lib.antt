@@ -1,0 +1,3 @@
+mod EntryLemmas
+mod FoundLemmas
+pub mod LawLemmas

@@ -3,8 +3,10 @@
 
 mod entry;
 mod finding;
+mod laws;
 mod refunding;
-
-pub use refunding::refund;
 #[cfg(test)]
 mod tests;
+
+pub use laws::{refund_keeps_sound, refunds_are_sums};
+pub use refunding::refund;

@@ -1,9 +1,9 @@
 //! The refund.
-ghost use Rattle.std.specs.Prelude.{◌≡◌};
+ghost use Rattle.std.specs.Prelude.{◌≡◌, ◌<◌};
 ghost use Rattle.std.specs.Option.{option_copied};
 ghost use Rattle.ph_calls.specs.Outcomes.{Gives};
 ghost use Rattle.ph_refunds.specs.Finding.{made_of_row};
-ghost use Rattle.ph_refunds.specs.Refunds.{is_disputed, is_won, refund_amount, refund_captured, refund_left, refund_of, refund_outcome};
+ghost use Rattle.ph_refunds.specs.Refunds.{is_disputed, is_won, left_of, refund_amount, refund_captured, refund_left, refund_of, refund_outcome};
 
 use crate::entry::{add_refund, left_of};
 use crate::finding::latest_charge_named;

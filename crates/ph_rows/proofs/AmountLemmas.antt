@@ -176,8 +176,8 @@ refunded_sums rows more made new refund before after sums had refunded made_is m
     refunds : refunded_of new.object (made ∷ more ++ new ∷ []) ≡ refund.amount
     refunds =
         let here : refunded_by new.object (refund_in made.item) ≡ refund.amount =
-            ap (λ (o : Item). refunded_by new.object (refund_in o)) made_is
-            ∙ cond-true (eqb refund.charge new.object) refund.amount 0 (eq-eqb refund.charge new.object mine) in
+        ap (λ (o : Item). refunded_by new.object (refund_in o)) made_is
+        ∙ cond-true (eqb refund.charge new.object) refund.amount 0 (eq-eqb refund.charge new.object mine) in
         let both = refunded_of-append new.object more (new ∷ []) in
         let first = refunded_of-apart new.object more (touch_none new.object more none) in
         let second = version_refunds new.object new after is in

@@ -66,11 +66,13 @@ events_follow key objects state count (told ∷ announced) order stand tells at 
     let new = event_row key state.time objects (count + 1) told in
     let few : length state.rows + 1 < 10 ^ 16 = omega arith in
     let follows : MayFollow state new =
-        subst (λ (n : ℕ). MayFollow state (event_row key state.time objects (n + 1) told)) (sym at)
-        (event_row_follows key objects state told order stand tells.0 text few) in
-    (follows, events_follow key objects (with_next state new) (count + 1) announced (order_with state new order follows)
-    (stand_before objects state.rows (new ∷ []) stand) tells.1
-    (ap (λ n. n + 1) at ∙ sym (length-append state.rows (new ∷ []))) text (omega arith))
+    subst (λ (n : ℕ). MayFollow state (event_row key state.time objects (n + 1) told)) (sym at)
+    (event_row_follows key objects state told order stand tells.0 text few) in (
+      follows,
+      events_follow key objects (with_next state new) (count + 1) announced (order_with state new order follows)
+          (stand_before objects state.rows (new ∷ []) stand) tells.1
+          (ap (λ n. n + 1) at ∙ sym (length-append state.rows (new ∷ []))) text (omega arith),
+    )
 
 -- the rows of events pass no test that no row of an event passes
 events_pass_none : (test : Row → Bool) (key : Option (List ℕ)) (at : ℕ) (objects : List Row) (count : ℕ)
@@ -157,5 +159,5 @@ told_with state rows more (told ∷ announced) order tells = (at (latest_of told
     at (Some subject) e h =
         let still = still_found told.object subject more in
         let latest : latest_of told.object (rows ++ more) ≡ Some still.0 =
-            latest_from told.object None rows more ∙ ap (λ o. fold (later_version told.object) o more) e ∙ still.1 in
+        latest_from told.object None rows more ∙ ap (λ o. fold (later_version told.object) o more) e ∙ still.1 in
         subst (λ (o : Option Row). IsToldBy o told.sort) (sym latest) (last subject still.0 e latest h)

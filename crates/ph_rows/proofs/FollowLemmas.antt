@@ -144,6 +144,8 @@ pub follow_both : (state : ViewState) (rows more : List Row) → AllMayFollow st
     → AllMayFollow (record state { rows = state.rows ++ rows }) more → AllMayFollow state (rows ++ more)
 follow_both state [] more first second =
     subst (λ (all : List Row). AllMayFollow (record state { rows = all }) more) (append-nil state.rows) second
-follow_both state (row ∷ rows) more first second =
-    (first.0, follow_both (with_next state row) rows more first.1
-    (subst (λ (all : List Row). AllMayFollow (record state { rows = all }) more) (sym (append_assoc state.rows (row ∷ []) rows)) second))
+follow_both state (row ∷ rows) more first second = (
+  first.0,
+  follow_both (with_next state row) rows more first.1
+      (subst (λ (all : List Row). AllMayFollow (record state { rows = all }) more) (sym (append_assoc state.rows (row ∷ []) rows)) second),
+)

@@ -174,12 +174,12 @@ held_kept state more object before order leave held row intent e is waits =
         → latest_of number state.rows ≡ Some last → charge_in last.item ≡ Some charge → list_any (is_version number) more ≡ false
     apart number last charge old mine latest found = none_passes (is_version number) more (λ i new there.
         ne_eqb new.object number (λ same.
-          let stood = latest_of_order state number last before latest in
-          let still = row_at-before last.place state.rows more last stood.0 in
-          let stands = stands_behind state more i new order there in
-          let alike = versions_alike whole new.place last.place new last order stands still (same ∙ sym stood.1) in
-          let free = charge_is_apart state.rows object new.object new.item (alike ∙ kind_of_charge last.item charge found) (leaves_at state.rows object more i new leave there) in
-          free row intent old is waits (mine ∙ ap Some (sym same))))
+        let stood = latest_of_order state number last before latest in
+        let still = row_at-before last.place state.rows more last stood.0 in
+        let stands = stands_behind state more i new order there in
+        let alike = versions_alike whole new.place last.place new last order stands still (same ∙ sym stood.1) in
+        let free = charge_is_apart state.rows object new.object new.item (alike ∙ kind_of_charge last.item charge found) (leaves_at state.rows object more i new leave there) in
+        free row intent old is waits (mine ∙ ap Some (sym same))))
 
     stays : (number : ℕ) (last : Option Row) → latest_of object state.rows ≡ Some row → intent.latest_charge ≡ Some number
         → latest_of number state.rows ≡ last → (o : Option Charge) → option_and_then (λ (r : Row). charge_in r.item) last ≡ o

@@ -314,8 +314,8 @@ pub stands_behind : (state : ViewState) (more : List Row) (i : ℕ) (row : Row) 
 stands_behind state more i row order found =
     let before : length state.rows + i ≡ (length state.rows + i + 1) - 1 = omega arith in
     let place : row_at (length state.rows + i + 1) (state.rows ++ more) ≡ Some row =
-        is_row_at (length state.rows + i + 1) (state.rows ++ more) row (λ z. omega arith)
-        (subst (λ j. slice_get (state.rows ++ more) j ≡ Some row) before (slice_get-behind state.rows more i ∙ found)) in
+    is_row_at (length state.rows + i + 1) (state.rows ++ more) row (λ z. omega arith)
+    (subst (λ j. slice_get (state.rows ++ more) j ≡ Some row) before (slice_get-behind state.rows more i ∙ found)) in
     subst (λ p. row_at p (state.rows ++ more) ≡ Some row) (sym (order.placed (length state.rows + i + 1) row place)) place
 
 -- rows in order stay so with rows that may follow one after another

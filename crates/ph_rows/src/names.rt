@@ -38,7 +38,11 @@ pub fn object_named<'a, V: View>(view: &'a V, kind: Kind, text: &[u8]) -> Option
     ensures { option_copied result ≡ object_named (V.state view.now).rows kind text.now }
 {
     let row = view.latest(number_named(kind, text)?)?;
-    if is_of_kind(kind, row) { Some(row) } else { None }
+    if is_of_kind(kind, row) {
+        Some(row)
+    } else {
+        None
+    }
 }
 
 /// The last version of the object of a kind and an account whose printed id a text is. None exactly where there is
@@ -52,5 +56,9 @@ pub fn owned_named<'a, V: View>(
     ensures { option_copied result ≡ owned_named (V.state view.now).rows account kind text.now }
 {
     let row = object_named(view, kind, text)?;
-    if row.account == account { Some(row) } else { None }
+    if row.account == account {
+        Some(row)
+    } else {
+        None
+    }
 }

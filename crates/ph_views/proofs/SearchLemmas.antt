@@ -16,7 +16,7 @@ pub record SearchIsAt (at place object : ℕ) (rows : List Row) : Type 0 where
   pub same : latest_of object (take at rows) ≡ version_before place object rows
 
 -- the row of a place is the element in front of it
-row_at-is : (at : ℕ) (rows : List Row) (row : Row) → row_at (at + 1) rows ≡ Some row → slice_get rows at ≡ Some row
+pub row_at-is : (at : ℕ) (rows : List Row) (row : Row) → row_at (at + 1) rows ≡ Some row → slice_get rows at ≡ Some row
 row_at-is at rows row e =
     elim (picked (eqb (at + 1) 0) None (slice_get rows (at + 1 - 1)) (Some row) e) [
       | inl q ↦ (let clash : None ≡ Some row = q.1 in absurd (cc))

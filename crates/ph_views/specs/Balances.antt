@@ -34,7 +34,7 @@ abbrev pub currencies_of : ℕ → List Row → List Currency
 currencies_of account rows = or_usd (filter (has_txns account rows) currencies)
 
 -- a sum in a currency
-abbrev pub sum_doc : ℤ → Currency → Doc
+unfoldable pub sum_doc : ℤ → Currency → Doc
 sum_doc sum currency = Object ((codes "amount", Number sum) ∷ (codes "currency", Text (code_of currency)) ∷ [])
 
 -- the available or (false) the pending balances of an account in currencies, at a time
@@ -43,7 +43,7 @@ sum_docs available account time rows currencies =
     map (λ currency. sum_doc (balance_of available account currency time rows) currency) currencies
 
 -- the document of the balance of an account at a time: a sum in each of its currencies
-abbrev pub balance_doc : ℕ → ℕ → List Row → Doc
+unfoldable pub balance_doc : ℕ → ℕ → List Row → Doc
 balance_doc account time rows = Object (
     (codes "available", doc.List (sum_docs true account time rows (currencies_of account rows)))
     ∷ (codes "livemode", Truth false)

@@ -10,7 +10,7 @@ use Rattle.ph_json.specs.Values.{text_or_null}
 use Rattle.ph_views.specs.Values.{moment_doc, printed_id}
 
 -- what was sent to win it
-abbrev pub evidence_doc : Option (List ℕ) → Doc
+unfoldable pub evidence_doc : Option (List ℕ) → Doc
 evidence_doc text = Object ((codes "uncategorized_text", text_or_null text) ∷ [])
 
 -- how much of which charge, and how it stands; the reason of every dispute is the same

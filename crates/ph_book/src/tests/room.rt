@@ -63,7 +63,7 @@ fn three_entries_take_one_call_that_waits(rt: HostRuntime) -> Result<(), Fail> {
     let mut full = book(rt.alloc(), 3, 536_870_912)?;
     let end = End::Finish(Ruling::Approved);
     has_room(&rt, &mut full, confirmed(rt.alloc()), end);
-    is_full(&rt, &mut full, confirmed(rt.alloc()), 2, 7);
+    is_full(&rt, &mut full, confirmed(rt.alloc()), 2, 10);
     Ok(())
 }
 

@@ -72,7 +72,14 @@ fn limit_holds(
             is_taken(rt, alloc, one, None);
             let longest = long(alloc, path, before, character, most, after);
             is_taken(rt, alloc, longest, None);
-            let longer = long(alloc, path, before, character, most + 1, after);
+            let longer = long(
+                alloc,
+                path,
+                before,
+                character,
+                most.saturating_add(1),
+                after,
+            );
             is_taken(rt, alloc, longer, Some(param));
         }
         None => assert!(rt; false),

@@ -1,0 +1,73 @@
+-- The laws of refunds.
+use Rattle.std.specs.Prelude.{◌==◌, nat_lt, unwrap_or, codes}
+use Rattle.std.proofs.Common.{◌≡◌, ℕ, ◌+◌, ◌≤◌, ◌<◌, Bool, true, false, cond, eqb, List, Option, None, Some, refl, ap, arith}
+use Rattle.std.proofs.lemmas.Bool.{cond_both, eqb-false}
+use Rattle.std.proofs.lemmas.Bool.Decides.{nat_tests}
+use Rattle.ph_calls.specs.declared.call.CreateRefund.{CreateRefund}
+use Rattle.ph_calls.specs.Keeps.{AddsSound, AreUtf8, IsReady, KeepsSound, batch_after}
+use Rattle.ph_calls.specs.Outcomes.{Outcome, Refuses, Adds}
+use Rattle.ph_errors.specs.Table.{error_of, ChargeAlreadyRefunded, ChargeDisputed, InvalidValue}
+use Rattle.ph_rows.specs.declared.rows.Row.{Row}
+use Rattle.ph_rows.specs.declared.charges.Capture.{Capture}
+use Rattle.ph_rows.specs.declared.charges.Charge.{Charge}
+use Rattle.ph_rows.specs.Batches.{BatchState, last_place}
+use Rattle.ph_rows.specs.Sound.{HasSums}
+use Rattle.ph_rows.specs.Transactions.{refunded_of}
+use Rattle.ph_rows.specs.Views.{ViewState}
+use Rattle.ph_refunds.specs.Entry.{refund_rows}
+use Rattle.ph_refunds.specs.Laws.{RefundsAreSums, refund_texts}
+use Rattle.ph_refunds.specs.Refunds.{is_disputed, left_of, refund_amount, refund_by, refund_left, refund_of, refund_outcome, summed}
+use Rattle.ph_refunds.proofs.EntryLemmas.{refund_enters}
+use Rattle.ph_refunds.proofs.FoundLemmas.{IsFound, alike_at}
+
+-- over sound rows a refund comes to what the sum of the charge's refunds decides
+pub refund_sums : RefundsAreSums
+refund_sums state account call batch sound =
+    alike_at (λ one other. one ≡ other) state (refund_of state.rows call batch)
+    (λ row charge. refund_of state.rows call batch row (summed state.rows row.object charge)) call.charge
+    call.payment_intent sound (λ error. refl) (λ row charge found. ap (refund_of state.rows call batch row) (same row charge found))
+  where
+    same : (row : Row) (charge : Charge) → IsFound state.rows row charge → charge ≡ summed state.rows row.object charge
+    same row charge found =
+        let sums : HasSums row.object charge state.rows = sound.charges row.object row charge found.latest found.is in
+        ap (λ (n : ℕ). record charge { amount_refunded = n }) sums.refunded
+
+-- a number that isn't above another is at most it
+not_above : (left amount : ℕ) → nat_lt left amount ≡ false → amount ≤ left
+not_above left amount e = grind (arith, nat_tests)
+
+-- a number that isn't 0 is above it
+not_none : (left : ℕ) → eqb left 0 ≡ false → 0 < left
+not_none left e = let some : left ≡ 0 → ⊥ = eqb-false left 0 e in grind arith
+
+-- what a refund adds may be entered
+pub refund_keeps : KeepsSound refund_texts refund_outcome
+refund_keeps state entry account call ready texts =
+    alike_at (λ outcome again. AddsSound state outcome) state (refund_of state.rows call begun) (refund_of state.rows call begun)
+    call.charge call.payment_intent ready.sound (λ error. tt) (λ row charge found. by row charge found charge.capture)
+  where
+    begun : BatchState
+    begun = batch_after state entry
+
+    of_amount : (row : Row) (charge : Charge) (capture : Capture) (amount : ℕ) → IsFound state.rows row charge
+        → 0 < left_of charge → AddsSound state (refund_amount call begun row charge capture amount)
+    of_amount row charge capture amount found some =
+        cond_both (nat_lt (left_of charge) amount) (Refuses (error_of (InvalidValue (codes "amount"))))
+        (Adds (last_place begun + 1) (refund_rows call row.account row.object charge capture amount begun)) (AddsSound state)
+        (λ above. tt)
+        (λ within. refund_enters state entry call row charge capture amount ready texts found some (not_above (left_of charge) amount within))
+
+    of_left : (row : Row) (charge : Charge) (capture : Capture) → IsFound state.rows row charge
+        → AddsSound state (refund_left call begun row charge capture)
+    of_left row charge capture found =
+        cond_both (left_of charge == 0) (Refuses (error_of ChargeAlreadyRefunded))
+        (refund_amount call begun row charge capture (unwrap_or call.amount (left_of charge))) (AddsSound state) (λ none. tt)
+        (λ some. of_amount row charge capture (unwrap_or call.amount (left_of charge)) found (not_none (left_of charge) some))
+
+    by : (row : Row) (charge : Charge) → IsFound state.rows row charge → (capture : Option Capture)
+        → AddsSound state (refund_by state.rows call begun row charge capture)
+    by row charge found None = tt
+    by row charge found (Some capture) =
+        cond_both (is_disputed state.rows charge.dispute) (Refuses (error_of ChargeDisputed))
+        (refund_left call begun row charge capture) (AddsSound state) (λ disputed. tt)
+        (λ undisputed. of_left row charge capture found)
