@@ -162,14 +162,8 @@ const REFUNDED_CHARGE: &[u8] =
 #[test]
 fn an_order(rt: HostRuntime) -> Result<(), Fail> {
     let alloc = rt.alloc();
-    let requests: &[&[u8]] = &[
-        CREATE_ORDER,
-        TXN_7,
-    ];
-    let replies: &[&[u8]] = &[
-        ORDERED,
-        ORDER_TXN,
-    ];
+    let requests: &[&[u8]] = &[CREATE_ORDER, TXN_7];
+    let replies: &[&[u8]] = &[ORDERED, ORDER_TXN];
     let (status, written) = run(alloc, STDIO, requests, 4096, &[], &[])?;
     assert_eq!(rt; status, 0);
     assert_eq!(rt; written.as_slice(), joined(alloc, replies)?.as_slice());
@@ -180,18 +174,8 @@ fn an_order(rt: HostRuntime) -> Result<(), Fail> {
 #[test]
 fn a_decline_and_another_card(rt: HostRuntime) -> Result<(), Fail> {
     let alloc = rt.alloc();
-    let requests: &[&[u8]] = &[
-        CREATE_DECLINED,
-        CHARGE_6,
-        CONFIRM_VISA,
-        CHARGE_13,
-    ];
-    let replies: &[&[u8]] = &[
-        DECLINED,
-        FAILED_CHARGE,
-        SUCCEEDED,
-        SECOND_CHARGE,
-    ];
+    let requests: &[&[u8]] = &[CREATE_DECLINED, CHARGE_6, CONFIRM_VISA, CHARGE_13];
+    let replies: &[&[u8]] = &[DECLINED, FAILED_CHARGE, SUCCEEDED, SECOND_CHARGE];
     let (status, written) = run(alloc, STDIO, requests, 4096, &[], &[])?;
     assert_eq!(rt; status, 0);
     assert_eq!(rt; written.as_slice(), joined(alloc, replies)?.as_slice());
@@ -222,7 +206,10 @@ fn references_of_a_payment(rt: HostRuntime) -> Result<(), Fail> {
         &mut patience,
     );
     assert_eq!(rt; status, 0);
-    assert_eq!(rt; output.bytes(), joined(alloc, &[DECLINED, SUCCEEDED])?.as_slice());
+    assert_eq!(rt;
+        output.bytes(),
+        joined(alloc, &[DECLINED, SUCCEEDED])?.as_slice()
+    );
     let asks: [(u64, Ruling); 2] = [(3, declined), (11, Ruling::Approved)];
     assert_eq!(rt; link.asked().len(), 2);
     for (ask, (reference, ruling)) in link.asked().iter().zip(asks) {
@@ -236,13 +223,7 @@ fn references_of_a_payment(rt: HostRuntime) -> Result<(), Fail> {
 #[test]
 fn a_capture_of_less(rt: HostRuntime) -> Result<(), Fail> {
     let alloc = rt.alloc();
-    let requests: &[&[u8]] = &[
-        CREATE_TO_CAPTURE,
-        REFUND_REST,
-        CAPTURE,
-        TXN_11,
-        CAPTURE,
-    ];
+    let requests: &[&[u8]] = &[CREATE_TO_CAPTURE, REFUND_REST, CAPTURE, TXN_11, CAPTURE];
     let replies: &[&[u8]] = &[
         TO_CAPTURE,
         NOT_CAPTURED,
