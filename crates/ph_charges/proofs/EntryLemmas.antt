@@ -25,10 +25,8 @@ use Rattle.ph_rows.specs.Words.{subject_of}
 use Rattle.ph_rows.proofs.BatchLemmas.{Continues, continues_new, continues_told, continues_with, new_may_follow, version_may_follow, with_batch}
 use Rattle.ph_rows.proofs.SoundLemmas.{latest_of_sound}
 use Rattle.ph_charges.specs.Approvals.{approval_of, charge_number, decline_of, with_approved}
-use Rattle.ph_charges.specs.Captures.{capture_of}
 use Rattle.ph_charges.specs.Charges.{captured_charge, new_charge, next_capture, with_captured}
 use Rattle.ph_charges.specs.Splits.{charge_txn}
-use Rattle.ph_charges.proofs.SumLemmas.{capture_is}
 
 -- a row that may follow is of the object that its number begins, which is what a transaction of it comes from
 begun_origin : (found : Option Row) (row : Row) → HasBegun found row
@@ -100,14 +98,14 @@ decline_continues state batch account object intent order continues few texts =
 
 -- and with a capture of a charge that stands in the view
 pub capture_continues : (state : ViewState) (batch : BatchState) (n amount : ℕ) (row : Row) (charge : Charge) → IsSound state
-    → Continues state batch → length state.rows + length batch.rows + 2 < 10 ^ 16 → latest_of n batch.rows ≡ None
-    → latest_of n state.rows ≡ Some row → row.item ≡ item.Charge charge → Continues state (capture_of state.rows n amount batch)
-capture_continues state batch n amount row charge sound continues few none latest is =
-    subst (λ (b : BatchState). Continues state b) (sym (capture_is state.rows n amount batch row charge none latest is))
-    (captured_continues state batch row.account n charge amount event.ChargeCaptured sound.order continues few refl
+    → Continues state batch → length state.rows + length batch.rows + 2 < 10 ^ 16
+    → latest_of n state.rows ≡ Some row → row.item ≡ item.Charge charge
+    → Continues state (with_announced (with_captured row.account n charge amount batch) event.ChargeCaptured n)
+capture_continues state batch n amount row charge sound continues few latest is =
+    captured_continues state batch row.account n charge amount event.ChargeCaptured sound.order continues few refl
     (subst (λ (object : ℕ). MayFollow (with_batch state batch) (captured_row row.account object charge amount batch)) found.1
     (version_may_follow state batch row (item.Charge (captured_charge amount (next_capture charge batch) charge)) sound.order
-    continues found.0 (omega arith) texts (ap kind_of (sym is)) refl)))
+    continues found.0 (omega arith) texts (ap kind_of (sym is)) refl))
   where
     found : (row_at row.place state.rows ≡ Some row) × (row.object ≡ n)
     found = latest_of_sound state n row sound latest

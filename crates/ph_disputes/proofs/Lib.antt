@@ -1,0 +1,4 @@
+pub mod AnswerLemmas
+mod FoundLemmas
+mod HeldLemmas
+pub mod OpeningLemmas

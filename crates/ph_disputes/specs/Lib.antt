@@ -2,4 +2,5 @@ pub mod Answers
 pub mod Closing
 pub mod Due
 pub mod Finding
+pub mod Laws
 pub mod Opening

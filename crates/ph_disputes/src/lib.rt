@@ -5,6 +5,7 @@ mod answers;
 mod closing;
 mod due;
 mod finding;
+mod laws;
 mod opening;
 #[cfg(test)]
 mod tests;
@@ -12,4 +13,5 @@ mod tests;
 pub use answers::evidence;
 pub use closing::close;
 pub use due::open_due;
+pub use laws::{answers_keep_sound, openings_keep_sound};
 pub use opening::open;

@@ -1,173 +1,185 @@
--- Rows that one entry adds: a version of a payment intent, an attempt, the event that tells of a version.
-use Rattle.std.proofs.Common.{◌≡◌, ℕ, ◌+◌, ◌^◌, ◌<◌, List, [], ◌∷◌, Option, Some, length, refl, sym, ap, subst, arith}
-use Rattle.std.proofs.lemmas.Bool.{eq-eqb, ne_eqb}
-use Rattle.std.proofs.lemmas.List.{length-append}
+-- What a call adds may be entered: a version of a payment intent, told or with an attempt.
+use Rattle.std.specs.Prelude.{option_and_then}
+use Rattle.std.proofs.Common.{◌≡◌, ℕ, ◌+◌, ◌^◌, ◌≤◌, ◌<◌, false, cond, eqb, List, [], ◌∷◌, ◌++◌, Option, None, Some, length, refl, sym, ap, ◌∙◌, arith}
+use Rattle.std.specs.List.{list_any}
+use Rattle.std.proofs.lemmas.Bool.{cond-true, cond-false, eq-eqb, ne_eqb}
+use Rattle.std.proofs.lemmas.List.{append_assoc}
+use Rattle.std.proofs.lemmas.List.Sums.{fold_push}
 use Rattle.ph_base.specs.declared.acquirer.Method.{Method}
 use Rattle.ph_base.specs.declared.ids.Kind.TheVariants as kind
 use Rattle.ph_rows.specs.declared.rows.Row.{Row}
 use Rattle.ph_rows.specs.declared.batches.Announced.{Announced}
-use Rattle.ph_rows.specs.declared.events.Event.{Event}
 use Rattle.ph_rows.specs.declared.event_kinds.EventKind.{EventKind}
 use Rattle.ph_rows.specs.declared.event_kinds.EventKind.TheVariants as event
 use Rattle.ph_rows.specs.declared.intents.Intent.{Intent}
+use Rattle.ph_rows.specs.declared.intents.IntentStatus.TheVariants as status
+use Rattle.ph_rows.specs.declared.items.Item.{Item}
 use Rattle.ph_rows.specs.declared.items.Item.TheVariants as item
-use Rattle.ph_rows.specs.Batches.{BatchState, last_place, next_row, event_row, account_of}
+use Rattle.ph_rows.specs.Batches.{BatchState, last_place, next_row, with_row, with_announced}
+use Rattle.ph_rows.specs.Entering.{MayBeEntered}
 use Rattle.ph_rows.specs.Kinds.{kind_of}
-use Rattle.ph_rows.specs.Rows.{row_at, latest_of}
-use Rattle.ph_rows.specs.Sound.{IsSound, with_next, MayFollow}
+use Rattle.ph_rows.specs.Rows.{later_version, latest_of}
+use Rattle.ph_rows.specs.Sound.{HaveSums, IsHeldAt, IsHeldBy, IsSound, charge_of}
 use Rattle.ph_rows.specs.Views.{ViewState}
 use Rattle.ph_rows.specs.Weights.{texts_of}
 use Rattle.ph_rows.specs.Words.{subject_of}
-use Rattle.ph_rows.proofs.SoundLemmas.{row_at-before, row_at-next, sound_with}
-use Rattle.ph_intents.specs.Attempts.{new_attempt, attempted}
-use Rattle.ph_intents.specs.Create.{with_both, created_with}
-use Rattle.ph_intents.specs.Keeps.{AreUtf8, IsReady, MayBeEntered, batch_after}
-use Rattle.ph_intents.specs.Versions.{with_version, with_told, adds_told}
-use Rattle.ph_intents.proofs.FollowLemmas.{IsNext, first_follows, TellsOf, event_follows}
+use Rattle.ph_rows.proofs.BatchLemmas.{Continues, continues_new, continues_told}
+use Rattle.ph_rows.proofs.ChargeLemmas.{sums_stay, touches}
+use Rattle.ph_rows.proofs.MoveLemmas.{is_of_dispute, moves_stay}
+use Rattle.ph_intents.specs.Attempts.{attempted, new_attempt, with_attempt}
+use Rattle.ph_intents.specs.Create.{created_with}
+use Rattle.ph_intents.specs.Keeps.{AddsSound, AreUtf8, IsReady, batch_after}
+use Rattle.ph_intents.specs.Versions.{adds_told, with_told, with_version}
+use Rattle.ph_intents.proofs.HoldLemmas.{Each, Spares, held_known, held_others, hold_stays}
 
--- ---- the view after a row that may follow
+-- the empty batch of an entry continues the view
+pub begins : (state : ViewState) (entry : ℕ) → Continues state (batch_after state entry)
+begins state entry = record { began = refl; at = refl; follow = tt; told = tt }
 
-pub more : (state : ViewState) (new : Row) → length (with_next state new).rows ≡ length state.rows + 1
-more state new = length-append state.rows (new ∷ [])
+-- ---- the present version of an object behind a batch
 
--- the new row stands at its place
-pub new_stands : (state : ViewState) (new : Row) → MayFollow state new
-    → row_at new.place (with_next state new).rows ≡ Some new
-new_stands state new follows =
-    subst (λ (place : ℕ). row_at place (with_next state new).rows ≡ Some new) (sym follows.place)
-    (row_at-next state.rows new)
+-- it is the last row, where that is one of it
+pub last_version : (rows : List Row) (batch : BatchState) (object account : ℕ) (content : Item)
+    → latest_of object (rows ++ (with_row batch object account content).rows) ≡ Some (next_row batch object account content)
+last_version rows batch object account content =
+    let new = next_row batch object account content in
+    ap (latest_of object) (sym (append_assoc rows batch.rows (new ∷ [])))
+    ∙ fold_push (later_version object) None (rows ++ batch.rows) new
+    ∙ cond-true (eqb object object) (Some new) (latest_of object (rows ++ batch.rows)) (eq-eqb object object refl)
 
--- the first, the second and the third row of an entry
-pub next_first : (state : ViewState) (new : Row) → length state.rows + 3 < 10 ^ 16
-    → new.place ≡ length state.rows + 1 → new.at ≡ state.time → AreUtf8 (texts_of new.item) → IsNext state new
-next_first state new room place at texts = record { few = omega arith; place = place; at = at; texts = texts }
+-- and as before, where the last row is one of another object
+pub other_version : (rows : List Row) (batch : BatchState) (object other account : ℕ) (content : Item) → (other ≡ object → ⊥)
+    → latest_of object (rows ++ (with_row batch other account content).rows) ≡ latest_of object (rows ++ batch.rows)
+other_version rows batch object other account content differs =
+    let new = next_row batch other account content in
+    ap (latest_of object) (sym (append_assoc rows batch.rows (new ∷ [])))
+    ∙ fold_push (later_version object) None (rows ++ batch.rows) new
+    ∙ cond-false (eqb other object) (Some new) (latest_of object (rows ++ batch.rows)) (ne_eqb other object differs)
 
-pub next_second : (state : ViewState) (first new : Row) → length state.rows + 3 < 10 ^ 16
-    → new.place ≡ length state.rows + 2 → new.at ≡ state.time → AreUtf8 (texts_of new.item)
-    → IsNext (with_next state first) new
-next_second state first new room place at texts = let count = more state first in record {
-  few = omega arith;
-  place = omega arith;
-  at = at;
-  texts = texts;
+-- ---- batches of one payment intent
+
+-- a batch that continues a sound view may be entered, where the sums are right with it, it has nothing of disputes, and
+-- it leaves alone what is held of every payment intent but one that is held
+pub enters : (state : ViewState) (batch : BatchState) (object : ℕ) → IsSound state → Continues state batch
+    → HaveSums (state.rows ++ batch.rows) → list_any is_of_dispute batch.rows ≡ false
+    → Each (Spares object state.rows) batch.rows → IsHeldAt object (state.rows ++ batch.rows) → MayBeEntered state batch
+enters state batch object sound continues sums none spares held = record {
+  began = continues.began;
+  at = continues.at;
+  follow = continues.follow;
+  charges = sums;
+  held = held_others state batch.rows object sound.order continues.follow sound.held spares held;
+  disputes = moves_stay state.rows batch.rows none sound.disputes;
+  told = continues.told;
 }
 
-pub next_third : (state : ViewState) (first second new : Row) → length state.rows + 3 < 10 ^ 16
-    → new.place ≡ length state.rows + 3 → new.at ≡ state.time → AreUtf8 (texts_of new.item)
-    → IsNext (with_next (with_next state first) second) new
-next_third state first second new room place at texts =
-    let count = more state first in
-    let counts = more (with_next state first) second in record {
-      few = omega arith;
-      place = omega arith;
-      at = at;
-      texts = texts;
-    }
+-- what a payment intent waits to capture is held by its latest charge in the view
+abbrev pub Waits : ViewState → ℕ → Intent → Type 0
+Waits state object intent =
+    intent.status ≡ status.RequiresCapture → IsHeldBy object intent (option_and_then (charge_of state.rows) intent.latest_charge)
 
--- ---- the row that the account of an event is taken from
+-- a row is a version of the payment intent, or of an attempt
+record IsPlain (object : ℕ) (row : Row) : Type 0 where
+  intent : kind_of row.item ≡ kind.Intent → row.object ≡ object
+  charge : kind_of row.item ≡ kind.Charge → ⊥
 
-pub latest_alone : (object : ℕ) (row : Row) → row.object ≡ object → latest_of object (row ∷ []) ≡ Some row
-latest_alone object row same = rw (eq-eqb row.object object same) refl
+plain_spares : (object : ℕ) (rows more : List Row) → Each (IsPlain object) more → Each (Spares object rows) more
+plain_spares object rows [] plain = tt
+plain_spares object rows (row ∷ more) plain =
+    (record { intent = plain.0.intent; charge = λ is charge e. absurd (plain.0.charge is) }, plain_spares object rows more plain.1)
 
-pub latest_behind : (object : ℕ) (first row : Row) → row.object ≡ object
-    → latest_of object (first ∷ row ∷ []) ≡ Some row
-latest_behind object first row same = rw (eq-eqb row.object object same) refl
+plain_charges : (object : ℕ) (more : List Row) → Each (IsPlain object) more → Each (λ row. kind_of row.item ≡ kind.Charge → ⊥) more
+plain_charges object [] plain = tt
+plain_charges object (row ∷ more) plain = (plain.0.charge, plain_charges object more plain.1)
 
-pub latest_before : (object : ℕ) (row last : Row) → row.object ≡ object → (last.object ≡ object → ⊥)
-    → latest_of object (row ∷ last ∷ []) ≡ Some row
-latest_before object row last same other =
-    rw (ne_eqb last.object object other, eq-eqb row.object object same) refl
+-- a batch with versions of a payment intent and attempts
+plain_enters : (state : ViewState) (batch : BatchState) (object : ℕ) (row : Row) (intent : Intent) → IsSound state
+    → Continues state batch → latest_of object (state.rows ++ batch.rows) ≡ Some row → row.item ≡ item.Intent intent
+    → ((charge : ℕ) → list_any (touches charge) batch.rows ≡ false) → list_any is_of_dispute batch.rows ≡ false
+    → Each (IsPlain object) batch.rows → Waits state object intent → MayBeEntered state batch
+plain_enters state batch object row intent sound continues latest is untouched none plain waits =
+    enters state batch object sound continues
+    (λ charge. sums_stay charge state.rows batch.rows (untouched charge) (sound.charges charge)) none
+    (plain_spares object state.rows batch.rows plain)
+    (held_known object (state.rows ++ batch.rows) row intent latest is
+    (λ here. hold_stays state batch.rows object intent sound.order continues.follow (plain_charges object batch.rows plain) (waits here)))
 
--- the event of an object whose last row in the batch is this one
-pub tells_of : (key : Option (List ℕ)) (at place object : ℕ) (objects : List Row) (sort : EventKind) (subject : Row)
-    → latest_of object objects ≡ Some subject → subject.object ≡ object → kind_of subject.item ≡ subject_of sort
-    → TellsOf subject (event_row key at objects place (record { sort = sort; object = object }))
-    (record { sort = sort; object = object; key = key })
-tells_of key at place object objects sort subject latest same kind = record {
-  is = refl;
-  account = ap account_of latest;
-  object = sym same;
-  kind = kind;
-}
-
--- ---- what an entry adds
-
--- a version of a payment intent in the batch of an entry
+-- a version of a payment intent
 abbrev pub version_row : ViewState → ℕ → ℕ → ℕ → Intent → Row
 version_row state entry account object intent = next_row (batch_after state entry) object account (item.Intent intent)
 
--- an attempt in a batch
-abbrev attempt_row : ℕ → ℕ → Intent → Method → BatchState → Row
-attempt_row account object intent how batch =
-    next_row batch (last_place batch + 1) account
-    (item.Attempt (new_attempt object intent.amount intent.currency how batch))
+version_plain : (state : ViewState) (entry account object : ℕ) (intent : Intent)
+    → IsPlain object (version_row state entry account object intent)
+version_plain state entry account object intent = record { intent = λ is. refl; charge = λ is. absurd (cc) }
 
--- a version of a payment intent, and an event that tells of it
-pub told_enters : (state : ViewState) (key : Option (List ℕ)) (entry account object : ℕ) (intent : Intent)
-    (sort : EventKind) → IsReady state key → kind.Intent ≡ subject_of sort
-    → MayFollow state (version_row state entry account object intent)
-    → MayBeEntered state key (adds_told account object intent sort (batch_after state entry))
-told_enters state key entry account object intent sort ready subject follows =
-    let row = version_row state entry account object intent in
-    let place = last_place (with_told account object intent sort (batch_after state entry)) + 1 in
-    let news = event_row key state.time (row ∷ []) place (record { sort = sort; object = object }) in
-    let room = ready.room in
-    let count = more state row in
-    let last = event_follows (with_next state row) row news (record { sort = sort; object = object; key = key })
-    (sound_with state row ready.sound follows) (new_stands state row follows)
-    (next_second state row news room (omega arith) refl ready.text) (omega arith)
-    (tells_of key state.time place object (row ∷ []) sort row (latest_alone object row refl) refl subject) in
-    (follows, (last, tt))
+-- by itself
+pub version_enters : (state : ViewState) (entry account object : ℕ) (intent : Intent) → IsReady state
+    → Continues state (with_version account object intent (batch_after state entry)) → Waits state object intent
+    → MayBeEntered state (with_version account object intent (batch_after state entry))
+version_enters state entry account object intent ready continues waits =
+    plain_enters state (with_version account object intent (batch_after state entry)) object
+    (version_row state entry account object intent) intent ready.sound continues
+    (last_version state.rows (batch_after state entry) object account (item.Intent intent)) refl (λ charge. refl) refl
+    (version_plain state entry account object intent, tt) waits
 
--- a version of a payment intent, and an attempt
-pub attempted_enters : (state : ViewState) (key : Option (List ℕ)) (entry account object : ℕ) (intent : Intent)
-    (how : Method) → IsReady state key → MayFollow state (version_row state entry account object intent)
-    → MayBeEntered state key (attempted account object intent how (batch_after state entry))
-attempted_enters state key entry account object intent how ready follows =
-    let row = version_row state entry account object intent in
-    let before = with_version account object intent (batch_after state entry) in
-    let begun = attempt_row account object intent how before in
-    let room = ready.room in
-    let count = more state row in
-    let last = first_follows (with_next state row) begun
-    (next_second state row begun room (omega arith) refl refl) (omega arith) (λ event is. absurd (cc)) in
-    (follows, (last, tt))
+-- and an event that tells of it
+pub told_enters : (state : ViewState) (entry account object : ℕ) (intent : Intent) (sort : EventKind) → IsReady state
+    → Continues state (with_version account object intent (batch_after state entry)) → kind.Intent ≡ subject_of sort
+    → Waits state object intent → AddsSound state (adds_told account object intent sort (batch_after state entry))
+told_enters state entry account object intent sort ready continues subject waits =
+    plain_enters state (with_told account object intent sort (batch_after state entry)) object
+    (version_row state entry account object intent) intent ready.sound
+    (continues_told state (batch_after state entry) object account (item.Intent intent) sort continues subject)
+    (last_version state.rows (batch_after state entry) object account (item.Intent intent)) refl (λ charge. refl) refl
+    (version_plain state entry account object intent, tt) waits
+
+-- a version of a payment intent in the batch of an entry, of which this was announced
+abbrev with_told_version : ViewState → ℕ → ℕ → ℕ → Intent → List Announced → BatchState
+with_told_version state entry account object intent announced =
+    record (with_version account object intent (batch_after state entry)) { announced = announced }
+
+-- and an attempt behind it
+attempt_enters : (state : ViewState) (entry account object : ℕ) (intent : Intent) (how : Method) (announced : List Announced)
+    → IsReady state → Continues state (with_told_version state entry account object intent announced)
+    → object ≤ length state.rows + 1 → Waits state object intent
+    → MayBeEntered state (with_attempt account object intent how (with_told_version state entry account object intent announced))
+attempt_enters state entry account object intent how announced ready continues early waits =
+    plain_enters state (with_attempt account object intent how before) object
+    (version_row state entry account object intent) intent ready.sound
+    (continues_new state before account begun ready.sound.order continues (let room = ready.room in omega arith) refl tt (λ event is. absurd (cc)))
+    (other_version state.rows before object (last_place before + 1) account begun (λ same. omega arith)
+    ∙ last_version state.rows (batch_after state entry) object account (item.Intent intent)) refl (λ charge. refl) refl
+    (version_plain state entry account object intent, (record { intent = λ is. absurd (cc); charge = λ is. absurd (cc) }, tt)) waits
+  where
+    before : BatchState
+    before = with_told_version state entry account object intent announced
+
+    begun : Item
+    begun = item.Attempt (new_attempt object intent.amount intent.currency how before)
+
+-- a further version of a payment intent, and an attempt
+pub attempted_enters : (state : ViewState) (entry account object : ℕ) (intent : Intent) (how : Method) → IsReady state
+    → Continues state (with_version account object intent (batch_after state entry)) → object ≤ length state.rows
+    → Waits state object intent → AddsSound state (attempted account object intent how (batch_after state entry))
+attempted_enters state entry account object intent how ready continues early waits =
+    attempt_enters state entry account object intent how [] ready continues (omega arith) waits
 
 -- the first version of a payment intent
-pub created_follows : (state : ViewState) (key : Option (List ℕ)) (entry account : ℕ) (intent : Intent)
-    → IsReady state key → AreUtf8 (texts_of (item.Intent intent))
-    → MayFollow state (version_row state entry account (last_place (batch_after state entry) + 1) intent)
-created_follows state key entry account intent ready texts =
-    let row = version_row state entry account (last_place (batch_after state entry) + 1) intent in
-    let room = ready.room in
-    first_follows state row (next_first state row room (omega arith) refl texts) (omega arith)
-    (λ event is. absurd (cc))
+pub created_continues : (state : ViewState) (entry account : ℕ) (intent : Intent) → IsReady state
+    → AreUtf8 (texts_of (item.Intent intent))
+    → Continues state (with_version account (last_place (batch_after state entry) + 1) intent (batch_after state entry))
+created_continues state entry account intent ready texts =
+    continues_new state (batch_after state entry) account (item.Intent intent) ready.sound.order (begins state entry)
+    (let room = ready.room in omega arith) texts tt (λ event is. absurd (cc))
 
 -- a new payment intent, its attempt, and the event that tells of it
-pub created_enters : (state : ViewState) (key : Option (List ℕ)) (entry account : ℕ) (intent : Intent) (how : Method)
-    → IsReady state key → AreUtf8 (texts_of (item.Intent intent))
-    → MayBeEntered state key (created_with account intent how (batch_after state entry))
-created_enters state key entry account intent how ready texts =
+pub created_enters : (state : ViewState) (entry account : ℕ) (intent : Intent) (how : Method) → IsReady state
+    → AreUtf8 (texts_of (item.Intent intent)) → Waits state (last_place (batch_after state entry) + 1) intent
+    → AddsSound state (created_with account intent how (batch_after state entry))
+created_enters state entry account intent how ready texts waits =
     let batch = batch_after state entry in
     let object = last_place batch + 1 in
-    let row = version_row state entry account object intent in
-    let begun = attempt_row account object intent how (with_version account object intent batch) in
-    let place = last_place (with_both account object intent how batch) + 1 in
-    let told : Announced = record { sort = event.IntentCreated; object = object } in
-    let news = event_row key state.time (row ∷ begun ∷ []) place told in
-    let room = ready.room in
-    let count = more state row in
-    let counts = more (with_next state row) begun in
-    let follows = created_follows state key entry account intent ready texts in
-    let sound = sound_with state row ready.sound follows in
-    let next = first_follows (with_next state row) begun
-    (next_second state row begun room (omega arith) refl refl) (omega arith) (λ event is. absurd (cc)) in
-    let apart : begun.object ≡ object → ⊥ = (λ same. omega arith) in
-    let last = event_follows (with_next (with_next state row) begun) row news
-    (record { sort = event.IntentCreated; object = object; key = key })
-    (sound_with (with_next state row) begun sound next)
-    (row_at-before row.place (with_next state row).rows (begun ∷ []) row (new_stands state row follows))
-    (next_third state row begun news room (omega arith) refl ready.text) (omega arith)
-    (tells_of key state.time place object (row ∷ begun ∷ []) event.IntentCreated row
-    (latest_before object row begun refl apart) refl refl) in
-    (follows, (next, (last, tt)))
+    attempt_enters state entry account object intent how (record { sort = event.IntentCreated; object = object } ∷ []) ready
+    (continues_told state batch object account (item.Intent intent) event.IntentCreated
+    (created_continues state entry account intent ready texts) refl)
+    (omega arith) waits

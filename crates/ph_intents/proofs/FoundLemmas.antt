@@ -1,122 +1,133 @@
 -- A payment intent that is found among sound rows, and what an operation on it may add.
 use Rattle.std.specs.Prelude.{option_and_then}
-use Rattle.std.proofs.Common.{◌≡◌, ℕ, ◌^◌, Bool, true, false, ◌&&◌, List, Option, None, Some, refl, sym, ap, subst, arith}
-use Rattle.std.proofs.lemmas.Bool.{eqb-true}
-use Rattle.std.proofs.lemmas.Option.{cond_some}
+use Rattle.std.proofs.Common.{◌≡◌, ℕ, ◌+◌, ◌^◌, ◌≤◌, ◌<◌, List, Option, None, Some, length, refl, sym, ap, ◌∙◌, subst, arith}
 use Rattle.ph_base.specs.declared.acquirer.Method.{Method}
 use Rattle.ph_base.specs.declared.ids.Kind.TheVariants as kind
 use Rattle.ph_calls.specs.Outcomes.{Outcome}
 use Rattle.ph_rows.specs.declared.rows.Row.{Row}
+use Rattle.ph_rows.specs.declared.charges.Charge.{Charge}
 use Rattle.ph_rows.specs.declared.event_kinds.EventKind.{EventKind}
 use Rattle.ph_rows.specs.declared.intents.Intent.{Intent}
 use Rattle.ph_rows.specs.declared.intents.IntentStatus.{IntentStatus}
+use Rattle.ph_rows.specs.declared.intents.IntentStatus.TheVariants as status
 use Rattle.ph_rows.specs.declared.items.Item.{Item}
 use Rattle.ph_rows.specs.declared.items.Item.TheVariants as item
+use Rattle.ph_rows.specs.Items.{intent_in}
 use Rattle.ph_rows.specs.Kinds.{kind_of}
+use Rattle.ph_rows.specs.Names.{owned_named}
 use Rattle.ph_rows.specs.Rows.{row_at, latest_of}
-use Rattle.ph_rows.specs.Sound.{IsSound, MayFollow}
+use Rattle.ph_rows.specs.Sound.{Holds, IsHeldBy, IsSound, charge_of}
 use Rattle.ph_rows.specs.Views.{ViewState}
 use Rattle.ph_rows.specs.Weights.{texts_of}
 use Rattle.ph_rows.specs.Words.{subject_of}
-use Rattle.ph_rows.proofs.SoundLemmas.{latest_of_sound}
+use Rattle.ph_rows.proofs.BatchLemmas.{Continues, continues_version}
+use Rattle.ph_rows.proofs.FoundLemmas.{owned_found}
+use Rattle.ph_rows.proofs.SoundLemmas.{row_at_within}
 use Rattle.ph_intents.specs.Attempts.{attempted}
-use Rattle.ph_intents.specs.Finding.{number_named, is_intent_of, if_intent_of, intent_of}
-use Rattle.ph_intents.specs.Keeps.{AreUtf8, IsReady, MayBeEntered, batch_after}
-use Rattle.ph_intents.specs.Refusals.{intent_in, made_of, made_of_row, made_at, if_allowed}
-use Rattle.ph_intents.specs.Versions.{adds_told}
-use Rattle.ph_intents.proofs.EnterLemmas.{next_first, version_row, told_enters, attempted_enters}
-use Rattle.ph_intents.proofs.FollowLemmas.{further_follows}
+use Rattle.ph_intents.specs.Keeps.{AddsSound, AreUtf8, IsReady, batch_after}
+use Rattle.ph_intents.specs.Refusals.{made_of, made_of_row, made_at, if_allowed}
+use Rattle.ph_intents.specs.Versions.{adds_told, with_version}
+use Rattle.ph_intents.proofs.EnterLemmas.{Waits, attempted_enters, begins, told_enters, version_enters}
 
--- a row that stands is this version of a payment intent of the account
+-- a row that stands is the present version of a payment intent of the account
 pub record IsFound (state : ViewState) (account : ℕ) (row : Row) (intent : Intent) : Type 0 where
   pub stands : row_at row.place state.rows ≡ Some row
+  pub latest : latest_of row.object state.rows ≡ Some row
   pub owner : row.account ≡ account
   pub is : row.item ≡ item.Intent intent
 
-first_holds : (a b : Bool) → (a && b) ≡ true → a ≡ true
-first_holds true b h = refl
-first_holds false b h = h
-
--- a row of the account that stands
-record IsOwned (state : ViewState) (account : ℕ) (row : Row) : Type 0 where
-  pub stands : row_at row.place state.rows ≡ Some row
-  pub owner : row.account ≡ account
-
-owned : (state : ViewState) (account number : ℕ) (row : Row) → IsSound state
-    → intent_of state.rows account number ≡ Some row → IsOwned state account row
-owned state account number row sound e = at (latest_of number state.rows) refl e
-  where
-    at : (found : Option Row) → latest_of number state.rows ≡ found
-        → option_and_then (if_intent_of account) found ≡ Some row → IsOwned state account row
-    at None l e = absurd (cc)
-    at (Some last) l e =
-        let chosen = cond_some (is_intent_of account last) last row e in
-        let stands = (latest_of_sound state number last sound l).0 in
-        let owner = eqb-true last.account account (first_holds _ _ chosen.0) in
-        subst (λ (r : Row). IsOwned state account r) chosen.1 (record { stands = stands; owner = owner })
-
 -- an operation on the payment intent of a path: what it makes of one that is found is what counts
-pub keeps_at : (operation : ℕ → Intent → Outcome) (state : ViewState) (key : Option (List ℕ)) (account : ℕ) (text : List ℕ)
-    → IsSound state
-    → ((row : Row) (intent : Intent) → IsFound state account row intent → MayBeEntered state key (operation row.object intent))
-    → MayBeEntered state key (made_at operation state.rows account text)
-keeps_at operation state key account text sound keeps = numbered (number_named kind.Intent text)
+pub keeps_at : (operation : ℕ → Intent → Outcome) (state : ViewState) (account : ℕ) (text : List ℕ) → IsSound state
+    → ((row : Row) (intent : Intent) → IsFound state account row intent → AddsSound state (operation row.object intent))
+    → AddsSound state (made_at operation state.rows account text)
+keeps_at operation state account text sound keeps = at (owned_named state.rows account kind.Intent text) refl
   where
-    item_is : (row : Row) → IsOwned state account row → (content : Item) → row.item ≡ content
-        → MayBeEntered state key (made_of (operation row.object) (intent_in content))
-    item_is row found (item.Account account) e = tt
-    item_is row found (item.Intent intent) e =
-        keeps row intent (record { stands = found.stands; owner = found.owner; is = e })
-    item_is row found (item.Attempt attempt) e = tt
-    item_is row found (item.Event event) e = tt
+    item_is : (row : Row) → row_at row.place state.rows ≡ Some row → latest_of row.object state.rows ≡ Some row
+        → row.account ≡ account → (content : Item) → row.item ≡ content
+        → AddsSound state (made_of (operation row.object) (intent_in content))
+    item_is row stands latest owner (item.Account other) is = tt
+    item_is row stands latest owner (item.Intent intent) is =
+        keeps row intent (record { stands = stands; latest = latest; owner = owner; is = is })
+    item_is row stands latest owner (item.Attempt attempt) is = tt
+    item_is row stands latest owner (item.Charge charge) is = tt
+    item_is row stands latest owner (item.Refund refund) is = tt
+    item_is row stands latest owner (item.Dispute dispute) is = tt
+    item_is row stands latest owner (item.Txn txn) is = tt
+    item_is row stands latest owner (item.Event event) is = tt
 
-    at : (number : ℕ) (row : Option Row) → intent_of state.rows account number ≡ row
-        → MayBeEntered state key (made_of_row operation row)
-    at number None e = tt
-    at number (Some row) e = item_is row (owned state account number row sound e) row.item refl
-
-    numbered : (number : Option ℕ)
-        → MayBeEntered state key (made_of_row operation (option_and_then (intent_of state.rows account) number))
-    numbered None = tt
-    numbered (Some number) = at number (intent_of state.rows account number) refl
+    at : (found : Option Row) → owned_named state.rows account kind.Intent text ≡ found
+        → AddsSound state (made_of_row operation found)
+    at None e = tt
+    at (Some row) e =
+        let there = owned_found state account kind.Intent text row sound e in
+        item_is row there.0.stands there.0.latest there.1 row.item refl
 
 -- a status that is allowed is what counts
-pub keeps_allowed : (state : ViewState) (key : Option (List ℕ)) (further : IntentStatus → Outcome)
-    (found : Option IntentStatus) → ((status : IntentStatus) → MayBeEntered state key (further status))
-    → MayBeEntered state key (if_allowed further found)
-keeps_allowed state key further None keeps = tt
-keeps_allowed state key further (Some status) keeps = keeps status
+pub keeps_allowed : (state : ViewState) (further : IntentStatus → Outcome) (found : Option IntentStatus)
+    → ((status : IntentStatus) → found ≡ Some status → AddsSound state (further status))
+    → AddsSound state (if_allowed further found)
+keeps_allowed state further None keeps = tt
+keeps_allowed state further (Some status) keeps = keeps status refl
 
 -- the texts of a payment intent that is found
 pub found_texts : (state : ViewState) (account : ℕ) (row : Row) (intent : Intent) → IsSound state
     → IsFound state account row intent → AreUtf8 (texts_of (item.Intent intent))
 found_texts state account row intent sound found =
-    subst (λ (content : Item). AreUtf8 (texts_of content)) found.is (sound.texts row.place row found.stands)
+    subst (λ (content : Item). AreUtf8 (texts_of content)) found.is (sound.order.texts row.place row found.stands)
 
--- a further version of a payment intent that is found
-pub version_follows : (state : ViewState) (key : Option (List ℕ)) (entry account : ℕ) (row : Row) (old new : Intent)
-    → IsReady state key → IsFound state account row old → AreUtf8 (texts_of (item.Intent new))
-    → MayFollow state (version_row state entry account row.object new)
-version_follows state key entry account row old new ready found texts =
-    let version = version_row state entry account row.object new in
-    let room = ready.room in
-    further_follows state row version ready.sound found.stands (next_first state version room (omega arith) refl texts)
-    (record { object = refl; account = sym found.owner; kind = ap kind_of (sym found.is) })
-    (λ event is. absurd (cc))
+-- it is an object of the view
+pub found_within : (state : ViewState) (account : ℕ) (row : Row) (intent : Intent) → IsSound state
+    → IsFound state account row intent → row.object ≤ length state.rows
+found_within state account row intent sound found =
+    let first : row.object ≤ row.place = sound.order.first row.place row found.stands in
+    let within : row.place ≤ length state.rows = (row_at_within row.place state.rows row found.stands).1 in
+    omega arith
+
+-- a version passes on what the version before it waits to capture: its charge stays, and it waits for no more
+pub record Passes (old new : Intent) : Type 0 where
+  pub charge : new.latest_charge ≡ old.latest_charge
+  pub amount : new.amount_capturable ≤ old.amount_capturable
+  pub waits : new.status ≡ status.RequiresCapture → old.status ≡ status.RequiresCapture
+
+passes_on : (object : ℕ) (old new : Intent) (charge : Option Charge) → new.amount_capturable ≤ old.amount_capturable
+    → IsHeldBy object old charge → IsHeldBy object new charge
+passes_on object old new None less held = absurd held
+passes_on object old new (Some charge) less held =
+    let enough : old.amount_capturable ≤ charge.amount = held.amount in
+    record { intent = held.intent; amount = omega arith; nothing = held.nothing }
+
+-- so it is held as the version before it was
+pub found_waits : (state : ViewState) (account : ℕ) (row : Row) (old new : Intent) → IsSound state → IsFound state account row old
+    → Passes old new → Waits state row.object new
+found_waits state account row old new sound found passes here =
+    subst (λ (charge : Option ℕ). IsHeldBy row.object new (option_and_then (charge_of state.rows) charge)) (sym passes.charge)
+    (passes_on row.object old new (option_and_then (charge_of state.rows) old.latest_charge) passes.amount
+    (sound.held row.object row old found.latest found.is (passes.waits here)))
+
+-- a batch continues with a further version of a payment intent that is found
+pub found_continues : (state : ViewState) (entry account : ℕ) (row : Row) (old new : Intent) → IsReady state
+    → IsFound state account row old → AreUtf8 (texts_of (item.Intent new))
+    → Continues state (with_version account row.object new (batch_after state entry))
+found_continues state entry account row old new ready found texts =
+    subst (λ (owner : ℕ). Continues state (with_version owner row.object new (batch_after state entry))) found.owner
+    (continues_version state (batch_after state entry) row (item.Intent new) ready.sound.order (begins state entry) found.stands
+    (let room = ready.room in omega arith) texts (ap kind_of (sym found.is)) refl)
 
 -- it may be entered with an event that tells of it
-pub found_told : (state : ViewState) (key : Option (List ℕ)) (entry account : ℕ) (row : Row) (old new : Intent)
-    (sort : EventKind) → IsReady state key → IsFound state account row old → kind.Intent ≡ subject_of sort
-    → AreUtf8 (texts_of (item.Intent new))
-    → MayBeEntered state key (adds_told account row.object new sort (batch_after state entry))
-found_told state key entry account row old new sort ready found subject texts =
-    told_enters state key entry account row.object new sort ready subject
-    (version_follows state key entry account row old new ready found texts)
+pub found_told : (state : ViewState) (entry account : ℕ) (row : Row) (old new : Intent) (sort : EventKind) → IsReady state
+    → IsFound state account row old → kind.Intent ≡ subject_of sort → AreUtf8 (texts_of (item.Intent new)) → Passes old new
+    → AddsSound state (adds_told account row.object new sort (batch_after state entry))
+found_told state entry account row old new sort ready found subject texts passes =
+    told_enters state entry account row.object new sort ready
+    (found_continues state entry account row old new ready found texts) subject
+    (found_waits state account row old new ready.sound found passes)
 
 -- and with an attempt
-pub found_attempted : (state : ViewState) (key : Option (List ℕ)) (entry account : ℕ) (row : Row) (old new : Intent)
-    (how : Method) → IsReady state key → IsFound state account row old → AreUtf8 (texts_of (item.Intent new))
-    → MayBeEntered state key (attempted account row.object new how (batch_after state entry))
-found_attempted state key entry account row old new how ready found texts =
-    attempted_enters state key entry account row.object new how ready
-    (version_follows state key entry account row old new ready found texts)
+pub found_attempted : (state : ViewState) (entry account : ℕ) (row : Row) (old new : Intent) (how : Method) → IsReady state
+    → IsFound state account row old → AreUtf8 (texts_of (item.Intent new)) → Passes old new
+    → AddsSound state (attempted account row.object new how (batch_after state entry))
+found_attempted state entry account row old new how ready found texts passes =
+    attempted_enters state entry account row.object new how ready
+    (found_continues state entry account row old new ready found texts)
+    (found_within state account row old ready.sound found)
+    (found_waits state account row old new ready.sound found passes)

@@ -70,12 +70,12 @@ latest_begun state object row order e =
     (order.begun row.place row found.0, found.1)
 
 -- the row of the present version of a charge
-record HasCharge (rows : List Row) (number : ℕ) (charge : Charge) : Type 0 where
-  row : Row
-  latest : latest_of number rows ≡ Some row
-  is : row.item ≡ item.Charge charge
+pub record HasCharge (rows : List Row) (number : ℕ) (charge : Charge) : Type 0 where
+  pub row : Row
+  pub latest : latest_of number rows ≡ Some row
+  pub is : row.item ≡ item.Charge charge
 
-charge_row : (rows : List Row) (number : ℕ) (charge : Charge) → charge_of rows number ≡ Some charge → HasCharge rows number charge
+pub charge_row : (rows : List Row) (number : ℕ) (charge : Charge) → charge_of rows number ≡ Some charge → HasCharge rows number charge
 charge_row rows number charge e = at (latest_of number rows) refl e
   where
     in_item : (row : Row) → latest_of number rows ≡ Some row → (content : Item) → row.item ≡ content → charge_in content ≡ Some charge
@@ -131,7 +131,8 @@ held_others state more object order follow held spares mine other = at (eqb othe
         more (each_begun state more follow) spares
 
     at : (b : Bool) → eqb other object ≡ b → IsHeldAt other all
-    at true e = subst (λ (k : ℕ). IsHeldAt k all) (sym (eqb-true other object e)) mine
+    at true e row intent latest is waits =
+        subst (λ (k : ℕ). IsHeldAt k all) (sym (eqb-true other object e)) mine row intent latest is waits
     at false e row intent latest is waits =
         let begun = latest_begun (with_rows state more) other row (order_with_all state more order follow) latest in
         let differs : other ≡ object → ⊥ = eqb-false other object e in

@@ -1,5 +1,5 @@
 -- What each call adds may be entered after sound rows.
-use Rattle.std.proofs.Common.{◌≡◌, ℕ, ◌+◌, ◌==◌, ◌||◌, cond, nat_lt, List, [], Option, None, Some, length, refl, codes, unwrap_or}
+use Rattle.std.proofs.Common.{◌≡◌, ℕ, ◌+◌, ◌==◌, ◌||◌, cond, nat_lt, List, [], Option, None, Some, length, refl, codes, unwrap_or, arith}
 use Rattle.std.proofs.lemmas.Bool.{cond_both}
 use Rattle.std.specs.Option.{option_or}
 use Rattle.ph_base.specs.declared.acquirer.Method.TheVariants as method
@@ -18,23 +18,23 @@ use Rattle.ph_rows.specs.declared.intents.PaymentError.TheVariants as payment_er
 use Rattle.ph_rows.specs.declared.items.Item.TheVariants as item
 use Rattle.ph_rows.specs.declared.payment_methods.PaymentMethod.{PaymentMethod}
 use Rattle.ph_rows.specs.Batches.{last_place}
-use Rattle.ph_rows.specs.Sound.{MayFollow}
+use Rattle.ph_rows.proofs.BatchLemmas.{Continues}
 use Rattle.ph_rows.specs.Weights.{with_text, method_text, metadata_texts, texts_of}
 use Rattle.ph_intents.specs.Attempts.{attempted}
 use Rattle.ph_intents.specs.Authenticate.{authenticate_of, authenticate_outcome, authenticated_intent, fail_of, fail_authentication_outcome, failed_intent}
 use Rattle.ph_intents.specs.Cancel.{cancel_of, cancel_outcome, canceled_intent}
-use Rattle.ph_intents.specs.Capture.{capture_of, capture_outcome, capture_amount, received_intent}
 use Rattle.ph_intents.specs.Confirm.{confirm_of, confirm_with, confirm_outcome, paying_intent}
 use Rattle.ph_intents.specs.Create.{new_intent, first_status, create_outcome, create_by, create_confirmed_outcome}
-use Rattle.ph_intents.specs.Keeps.{AreUtf8, MayBeEntered, KeepsSound, batch_after, create_texts, update_texts, confirm_texts, no_texts, named_texts}
+use Rattle.ph_intents.specs.Keeps.{AddsSound, AreUtf8, KeepsSound, batch_after, create_texts, update_texts, confirm_texts, no_texts, named_texts}
 use Rattle.ph_intents.specs.Metadata.{first_metadata, merged_metadata}
 use Rattle.ph_intents.specs.Refusals.{invalid_value}
 use Rattle.ph_intents.specs.Statuses.{next_status}
 use Rattle.ph_intents.specs.Update.{most_keys, step_of, update_with, update_of, updated_intent, update_outcome}
 use Rattle.ph_intents.specs.Versions.{with_version, adds_told}
 use Rattle.ph_intents.specs.declared.statuses.Step.TheVariants as step
-use Rattle.ph_intents.proofs.EnterLemmas.{version_row, told_enters, created_follows, created_enters}
-use Rattle.ph_intents.proofs.FoundLemmas.{IsFound, keeps_at, keeps_allowed, found_texts, version_follows, found_told, found_attempted}
+use Rattle.ph_intents.proofs.EnterLemmas.{Waits, created_continues, created_enters, told_enters, version_enters}
+use Rattle.ph_intents.proofs.FoundLemmas.{IsFound, keeps_at, keeps_allowed, found_attempted, found_continues, found_texts, found_told, found_waits}
+use Rattle.ph_intents.proofs.StatusLemmas.{waited_before}
 use Rattle.ph_intents.proofs.TextLemmas.{front_text, with_front, either_text, either_method, first_kept, merged_kept}
 
 -- the texts of a payment intent behind the name of its payment method
@@ -58,67 +58,55 @@ new_texts call status texts =
     (with_front call.description new_group two.0
     (with_front call.transfer_group pairs three.0 (first_kept call.metadata three.1)))
 
+-- a new payment intent doesn't wait for a capture
+never_waits : (method : Option PaymentMethod) → first_status method ≡ status.RequiresCapture → ⊥
+never_waits None waits = cc
+never_waits (Some method) waits = cc
+
 pub create_keeps : KeepsSound create_texts create_outcome
-create_keeps state entry account key call ready texts =
+create_keeps state entry account call ready texts =
     let intent = new_intent call (first_status call.payment_method) in
     let kept = new_texts call (first_status call.payment_method) texts in
-    told_enters state key entry account (last_place (batch_after state entry) + 1) intent event.IntentCreated ready refl
-    (created_follows state key entry account intent ready kept)
+    told_enters state entry account (last_place (batch_after state entry) + 1) intent event.IntentCreated ready
+    (created_continues state entry account intent ready kept) refl
+    (λ waits. absurd (never_waits call.payment_method waits))
 
 pub create_confirmed_keeps : KeepsSound create_texts create_confirmed_outcome
-create_confirmed_keeps state entry account key call ready texts = at call.payment_method
+create_confirmed_keeps state entry account call ready texts = at call.payment_method
   where
     at : (method : Option PaymentMethod)
-        → MayBeEntered state key (create_by account call (batch_after state entry) method)
+        → AddsSound state (create_by account call (batch_after state entry) method)
     at None = tt
     at (Some method) =
-        created_enters state key entry account (new_intent call status.Processing) method.method ready
-        (new_texts call status.Processing texts)
+        created_enters state entry account (new_intent call status.Processing) method.method ready
+        (new_texts call status.Processing texts) (λ waits. absurd (cc))
 
 -- ---- the calls that change a payment intent, its texts as they were
 
 pub cancel_keeps : KeepsSound no_texts cancel_outcome
-cancel_keeps state entry account key call ready texts =
+cancel_keeps state entry account call ready texts =
     let batch = batch_after state entry in
     let reason = call.cancellation_reason in
-    keeps_at (cancel_of account reason batch) state key account call.id ready.sound
+    keeps_at (cancel_of account reason batch) state account call.id ready.sound
     (λ row intent found.
     let kept = found_texts state account row intent ready.sound found in
     let canceled = canceled_intent reason intent in
-    keeps_allowed state key (λ status. adds_told account row.object (canceled status) event.IntentCanceled batch)
+    keeps_allowed state (λ status. adds_told account row.object (canceled status) event.IntentCanceled batch)
     (next_status intent.status step.Cancel)
-    (λ status. found_told state key entry account row intent (canceled status) event.IntentCanceled ready found refl kept))
-
-pub capture_keeps : KeepsSound no_texts capture_outcome
-capture_keeps state entry account key call ready texts =
-    let batch = batch_after state entry in
-    keeps_at (capture_of account call.amount_to_capture batch) state key account call.id ready.sound
-    (λ row intent found.
-    let amount = unwrap_or call.amount_to_capture intent.amount_capturable in
-    keeps_allowed state key (capture_amount account amount batch row.object intent)
-    (next_status intent.status step.Capture)
-    (λ status. of_amount row intent found status amount))
-  where
-    of_amount : (row : Row) (intent : Intent) → IsFound state account row intent → (status : IntentStatus) (amount : ℕ)
-        → MayBeEntered state key (capture_amount account amount (batch_after state entry) row.object intent status)
-    of_amount row intent found status amount =
-        let received = received_intent amount intent status in
-        let kept = found_texts state account row intent ready.sound found in
-        cond_both ((amount == 0) || nat_lt intent.amount_capturable amount) (invalid_value (codes "amount_to_capture"))
-        (adds_told account row.object received event.IntentSucceeded (batch_after state entry))
-        (MayBeEntered state key) (λ out. tt)
-        (λ within. found_told state key entry account row intent received event.IntentSucceeded ready found refl kept)
+    (λ status to. found_told state entry account row intent (canceled status) event.IntentCanceled ready found refl kept
+    (record { charge = refl; amount = omega arith; waits = waited_before intent.status step.Cancel status to })))
 
 pub authenticate_keeps : KeepsSound no_texts authenticate_outcome
-authenticate_keeps state entry account key call ready texts =
+authenticate_keeps state entry account call ready texts =
     let batch = batch_after state entry in
-    keeps_at (authenticate_of account batch) state key account call.id ready.sound
+    keeps_at (authenticate_of account batch) state account call.id ready.sound
     (λ row intent found.
     let kept = found_texts state account row intent ready.sound found in
     let paying = authenticated_intent intent in
-    keeps_allowed state key (λ status. attempted account row.object (paying status) method.Authenticated batch)
+    keeps_allowed state (λ status. attempted account row.object (paying status) method.Authenticated batch)
     (next_status intent.status step.Authenticate)
-    (λ status. found_attempted state key entry account row intent (paying status) method.Authenticated ready found kept))
+    (λ status to. found_attempted state entry account row intent (paying status) method.Authenticated ready found kept
+    (record { charge = refl; amount = omega arith; waits = waited_before intent.status step.Authenticate status to })))
 
 -- ---- the calls that change its texts
 
@@ -128,17 +116,18 @@ pub failed_texts : (intent : Intent) (error : PaymentError) (status : IntentStat
 failed_texts intent error status texts = (front_text (method_text intent.payment_method) (other_texts intent) texts).1
 
 pub fail_authentication_keeps : KeepsSound no_texts fail_authentication_outcome
-fail_authentication_keeps state entry account key call ready texts =
+fail_authentication_keeps state entry account call ready texts =
     let batch = batch_after state entry in
-    keeps_at (fail_of account batch) state key account call.id ready.sound
+    keeps_at (fail_of account batch) state account call.id ready.sound
     (λ row intent found.
     let kept = found_texts state account row intent ready.sound found in
     let failed = failed_intent payment_error.NotAuthenticated intent in
     let sort = event.IntentPaymentFailed in
-    keeps_allowed state key (λ status. adds_told account row.object (failed status) sort batch)
+    keeps_allowed state (λ status. adds_told account row.object (failed status) sort batch)
     (next_status intent.status step.Fail)
-    (λ status. found_told state key entry account row intent (failed status) sort ready found refl
-    (failed_texts intent payment_error.NotAuthenticated status kept)))
+    (λ status to. found_told state entry account row intent (failed status) sort ready found refl
+    (failed_texts intent payment_error.NotAuthenticated status kept)
+    (record { charge = refl; amount = omega arith; waits = waited_before intent.status step.Fail status to })))
 
 -- the texts of a payment intent that a payment method is to pay
 paying_texts : (intent : Intent) (method : PaymentMethod) (status : IntentStatus)
@@ -149,8 +138,8 @@ paying_texts intent method status named texts =
     (front_text (method_text intent.payment_method) (other_texts intent) texts).1
 
 pub confirm_keeps : KeepsSound confirm_texts confirm_outcome
-confirm_keeps state entry account key call ready texts =
-    keeps_at (confirm_of account call.payment_method (batch_after state entry)) state key account call.id ready.sound
+confirm_keeps state entry account call ready texts =
+    keeps_at (confirm_of account call.payment_method (batch_after state entry)) state account call.id ready.sound
     (λ row intent found.
     let kept = found_texts state account row intent ready.sound found in
     let own = (front_text (method_text intent.payment_method) (other_texts intent) kept).0 in
@@ -159,15 +148,16 @@ confirm_keeps state entry account key call ready texts =
   where
     with_method : (row : Row) (intent : Intent) → IsFound state account row intent → AreUtf8 (texts_of (item.Intent intent))
         → (method : Option PaymentMethod) → AreUtf8 (with_text (method_text method) [])
-        → MayBeEntered state key (confirm_with account (batch_after state entry) row.object intent method)
+        → AddsSound state (confirm_with account (batch_after state entry) row.object intent method)
     with_method row intent found kept None named = tt
     with_method row intent found kept (Some method) named =
         let paying = paying_intent method intent in
-        keeps_allowed state key
+        keeps_allowed state
         (λ status. attempted account row.object (paying status) method.method (batch_after state entry))
         (next_status intent.status step.Confirm)
-        (λ status. found_attempted state key entry account row intent (paying status) method.method ready found
-        (paying_texts intent method status named kept))
+        (λ status to. found_attempted state entry account row intent (paying status) method.method ready found
+        (paying_texts intent method status named kept)
+        (record { charge = refl; amount = omega arith; waits = waited_before intent.status step.Confirm status to }))
 
 -- the texts of a payment intent after an update
 updated_texts : (call : UpdateIntent) (intent : Intent) (status : IntentStatus) → AreUtf8 (update_texts call)
@@ -191,24 +181,26 @@ updated_texts call intent status texts kept =
     (merged_kept call.metadata intent.metadata three.1 old_three.1)))
 
 pub update_keeps : KeepsSound update_texts update_outcome
-update_keeps state entry account key call ready texts =
+update_keeps state entry account call ready texts =
     let batch = batch_after state entry in
-    keeps_at (update_of account call batch) state key account call.id ready.sound
+    keeps_at (update_of account call batch) state account call.id ready.sound
     (λ row intent found.
     let kept = found_texts state account row intent ready.sound found in
     let updated = updated_intent call intent in
-    keeps_allowed state key (λ status. update_with account batch row.object (updated status))
+    keeps_allowed state (λ status. update_with account batch row.object (updated status))
     (next_status intent.status (step_of call))
-    (λ status. with_updated row.object (updated status)
-    (version_follows state key entry account row intent (updated status) ready found
-    (updated_texts call intent status texts kept))))
+    (λ status to. with_updated row.object (updated status)
+    (found_continues state entry account row intent (updated status) ready found (updated_texts call intent status texts kept))
+    (found_waits state account row intent (updated status) ready.sound found
+    (record { charge = refl; amount = omega arith; waits = waited_before intent.status (step_of call) status to }))))
   where
-    with_updated : (object : ℕ) (intent : Intent) → MayFollow state (version_row state entry account object intent)
-        → MayBeEntered state key (update_with account (batch_after state entry) object intent)
-    with_updated object intent follows =
+    with_updated : (object : ℕ) (intent : Intent) → Continues state (with_version account object intent (batch_after state entry))
+        → Waits state object intent → AddsSound state (update_with account (batch_after state entry) object intent)
+    with_updated object intent continues waits =
         let keys = nat_lt most_keys (length intent.metadata) in
         let adds = Adds object (with_version account object intent (batch_after state entry)) in
         let many = invalid_value (codes "metadata") in
         cond_both (nat_lt intent.amount (terms_of intent.currency).minimum) (Refuses (error_of AmountTooSmall))
-        (cond keys many adds) (MayBeEntered state key) (λ small. tt)
-        (λ enough. cond_both keys many adds (MayBeEntered state key) (λ above. tt) (λ within. (follows, tt)))
+        (cond keys many adds) (AddsSound state) (λ small. tt)
+        (λ enough. cond_both keys many adds (AddsSound state) (λ above. tt)
+        (λ within. version_enters state entry account object intent ready continues waits))

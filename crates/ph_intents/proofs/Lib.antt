@@ -1,6 +1,8 @@
+pub mod CaptureLemmas
 mod EnterLemmas
-mod FollowLemmas
 mod FoundLemmas
+mod HoldLemmas
 pub mod KeepsLemmas
 pub mod SettleLemmas
+mod StatusLemmas
 mod TextLemmas

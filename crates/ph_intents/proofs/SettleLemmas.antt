@@ -1,10 +1,21 @@
 -- What a ruling adds may be entered after sound rows.
-use Rattle.std.proofs.Common.{◌≡◌, ℕ, ◌+◌, List, [], ◌∷◌, Option, None, Some, refl, sym, ap, subst, arith}
+use Rattle.std.specs.Prelude.{option_and_then}
+use Rattle.std.proofs.Common.{◌≡◌, ℕ, ◌+◌, ◌≤◌, ◌<◌, ◌^◌, false, List, [], ◌∷◌, ◌++◌, Option, None, Some, length, refl, sym, ap, ◌∙◌, subst, arith}
+use Rattle.std.specs.List.{list_any}
+use Rattle.std.proofs.lemmas.List.{append-nil}
 use Rattle.ph_base.specs.declared.acquirer.Ruling.{Ruling}
 use Rattle.ph_base.specs.declared.acquirer.Ruling.TheVariants as ruling
 use Rattle.ph_base.specs.declared.ids.Kind.TheVariants as kind
+use Rattle.ph_charges.specs.Approvals.{approval_of, charge_number, decline_of, with_approved}
+use Rattle.ph_charges.specs.Charges.{new_charge, with_captured}
+use Rattle.ph_charges.proofs.EntryLemmas.{approval_continues, decline_continues}
+use Rattle.ph_charges.proofs.SumLemmas.{approval_keeps, decline_keeps}
 use Rattle.ph_rows.specs.declared.rows.Row.{Row}
 use Rattle.ph_rows.specs.declared.attempts.Attempt.{Attempt}
+use Rattle.ph_rows.specs.declared.charges.Charge.{Charge}
+use Rattle.ph_rows.specs.declared.charges.ChargeStatus.TheVariants as charge_status
+use Rattle.ph_rows.specs.declared.event_kinds.EventKind.{EventKind}
+use Rattle.ph_rows.specs.declared.event_kinds.EventKind.TheVariants as event
 use Rattle.ph_rows.specs.declared.intents.CaptureMethod.{CaptureMethod}
 use Rattle.ph_rows.specs.declared.intents.CaptureMethod.TheVariants as capture_method
 use Rattle.ph_rows.specs.declared.intents.Intent.{Intent}
@@ -12,21 +23,24 @@ use Rattle.ph_rows.specs.declared.intents.IntentStatus.TheVariants as status
 use Rattle.ph_rows.specs.declared.intents.PaymentError.TheVariants as payment_error
 use Rattle.ph_rows.specs.declared.items.Item.{Item}
 use Rattle.ph_rows.specs.declared.items.Item.TheVariants as item
-use Rattle.ph_rows.specs.Batches.{last_place, next_row, event_row}
+use Rattle.ph_rows.specs.Batches.{BatchState, last_place, next_row, with_row, with_announced}
+use Rattle.ph_rows.specs.Entering.{MayBeEntered}
+use Rattle.ph_rows.specs.Items.{attempt_in, charge_in, intent_in}
 use Rattle.ph_rows.specs.Kinds.{kind_of}
 use Rattle.ph_rows.specs.Rows.{row_at, latest_of}
-use Rattle.ph_rows.specs.Sound.{with_next, MayFollow}
+use Rattle.ph_rows.specs.Sound.{AreHeld, HaveMoves, HaveSums, IsHeldBy, IsInOrder, IsSound, charge_of}
 use Rattle.ph_rows.specs.Views.{ViewState}
 use Rattle.ph_rows.specs.Weights.{texts_of}
 use Rattle.ph_rows.specs.Words.{subject_of}
-use Rattle.ph_rows.proofs.SoundLemmas.{row_at-before, sound_with, latest_of_sound}
-use Rattle.ph_intents.specs.Attempts.{attempt_in}
-use Rattle.ph_intents.specs.Keeps.{AreUtf8, IsReady, MayBeEntered, SettleKeepsSound, batch_after}
-use Rattle.ph_intents.specs.Refusals.{intent_in}
-use Rattle.ph_intents.specs.Settle.{settled_attempt, approved_intent, settled_intent, settled_event, with_settled, settle_both, settle_intent, settle_attempt, settle_row}
+use Rattle.ph_rows.proofs.BatchLemmas.{Continues, continues_told, continues_version}
+use Rattle.ph_rows.proofs.ChargeLemmas.{neither_part, sums_stay, touches}
+use Rattle.ph_rows.proofs.MoveLemmas.{is_of_dispute}
+use Rattle.ph_rows.proofs.SoundLemmas.{latest_of_order, latest_of_sound, row_at_within}
+use Rattle.ph_intents.specs.Keeps.{AddsSound, AreUtf8, IsReady, SettleKeepsSound, batch_after}
+use Rattle.ph_intents.specs.Settle.{settled_attempt, approved_intent, approved_event, charge_after, ruled_intent, settled_intent, settled_event, settle_both, settle_intent, settle_attempt, settle_row, with_charge, with_latest_charge, with_ruling, with_settled}
 use Rattle.ph_intents.specs.Versions.{with_told}
-use Rattle.ph_intents.proofs.EnterLemmas.{more, new_stands, next_first, next_second, next_third, latest_behind, tells_of}
-use Rattle.ph_intents.proofs.FollowLemmas.{further_follows, event_follows}
+use Rattle.ph_intents.proofs.EnterLemmas.{begins, enters, last_version, other_version}
+use Rattle.ph_intents.proofs.HoldLemmas.{Each, HasCharge, Spares, charge_row, held_known}
 use Rattle.ph_intents.proofs.KeepsLemmas.{failed_texts}
 
 -- a row that stands is this version of an attempt
@@ -39,104 +53,250 @@ record IsIntent (state : ViewState) (row : Row) (intent : Intent) : Type 0 where
   pub stands : row_at row.place state.rows ≡ Some row
   pub is : row.item ≡ item.Intent intent
 
--- the version of an attempt after a ruling, in the batch of an entry
-abbrev settled_row : ViewState → ℕ → Ruling → Row → Attempt → Row
-settled_row state entry how row attempt =
-    next_row (batch_after state entry) row.object row.account (item.Attempt (settled_attempt how attempt))
+-- ---- the rows that a ruling adds in front of the payment intent's version
 
-settled_follows : (state : ViewState) (key : Option (List ℕ)) (entry : ℕ) (how : Ruling) (row : Row) (attempt : Attempt)
-    → IsReady state key → IsAttempt state row attempt → MayFollow state (settled_row state entry how row attempt)
-settled_follows state key entry how row attempt ready stood =
-    let version = settled_row state entry how row attempt in
+-- each row of two lists
+each_push : (P : Row → Type 0) (rows : List Row) (last : Row) → Each P rows → P last → Each P (rows ++ last ∷ [])
+each_push P [] last each p = (p, tt)
+each_push P (row ∷ rows) last each p = (each.0, each_push P rows last each.1 p)
+
+-- they continue the view, are few, are nothing of disputes, and leave other payment intents alone
+record IsRuled (state : ViewState) (object : ℕ) (batch : BatchState) : Type 0 where
+  pub continues : Continues state batch
+  pub few : length batch.rows ≤ 3
+  pub disputes : list_any is_of_dispute batch.rows ≡ false
+  pub spares : Each (Spares object state.rows) batch.rows
+
+-- a row of no payment intent and no charge spares all
+spares_all : (object : ℕ) (rows : List Row) (row : Row) → (kind_of row.item ≡ kind.Intent → ⊥) → (kind_of row.item ≡ kind.Charge → ⊥)
+    → Spares object rows row
+spares_all object rows row no_intent no_charge =
+    record { intent = λ k. absurd (no_intent k); charge = λ k charge e. absurd (no_charge k) }
+
+-- the row of a number behind all others is one of a new charge
+no_charge_yet : (state : ViewState) (number : ℕ) (charge : Charge) → IsInOrder state → length state.rows < number
+    → charge_of state.rows number ≡ Some charge → ⊥
+no_charge_yet state number charge order later e =
+    let last = charge_row state.rows number charge e in
+    let found = latest_of_order state number last.row order last.latest in
+    let object : last.row.object ≡ number = found.1 in
+    let first : last.row.object ≤ last.row.place = order.first last.row.place last.row found.0 in
+    let within : last.row.place ≤ length state.rows = (row_at_within last.row.place state.rows last.row found.0).1 in
+    omega arith
+
+spares_new : (state : ViewState) (object : ℕ) (row : Row) → IsInOrder state → kind_of row.item ≡ kind.Charge
+    → length state.rows < row.object → Spares object state.rows row
+spares_new state object row order is later = record {
+  intent = λ k. absurd (let clash : kind.Charge ≡ kind.Intent = sym is ∙ k in cc);
+  charge = λ k charge e. absurd (no_charge_yet state row.object charge order later e);
+}
+
+-- ---- and with it
+
+-- a version of the payment intent behind them, and the event that tells of it
+ruled_enters : (state : ViewState) (row : Row) (old new : Intent) (sort : EventKind) (batch : BatchState) → IsReady state
+    → IsIntent state row old → IsRuled state row.object batch → AreUtf8 (texts_of (item.Intent new)) → kind.Intent ≡ subject_of sort
+    → HaveSums (state.rows ++ (batch.rows ++ next_row batch row.object row.account (item.Intent new) ∷ []))
+    → (new.status ≡ status.RequiresCapture → IsHeldBy row.object new (option_and_then (charge_of (state.rows ++ (batch.rows ++ next_row batch row.object row.account (item.Intent new) ∷ []))) new.latest_charge))
+    → MayBeEntered state (with_told row.account row.object new sort batch)
+ruled_enters state row old new sort batch ready there ruled texts subject kept held =
+    let version = next_row batch row.object row.account (item.Intent new) in
     let room = ready.room in
-    further_follows state row version ready.sound stood.stands (next_first state version room (omega arith) refl refl)
-    (record { object = refl; account = refl; kind = ap kind_of (sym stood.is) })
-    (λ event is. absurd (cc))
+    let few : length batch.rows ≤ 3 = ruled.few in
+    enters state (with_told row.account row.object new sort batch) row.object ready.sound
+    (continues_told state batch row.object row.account (item.Intent new) sort
+    (continues_version state batch row (item.Intent new) ready.sound.order ruled.continues there.stands (omega arith) texts
+    (ap kind_of (sym there.is)) refl) subject)
+    kept (neither_part is_of_dispute batch.rows (version ∷ []) ruled.disputes refl)
+    (each_push (Spares row.object state.rows) batch.rows version ruled.spares (record { intent = λ k. refl; charge = λ k charge e. absurd (cc) }))
+    (held_known row.object (state.rows ++ (batch.rows ++ version ∷ [])) version new
+    (last_version state.rows batch row.object row.account (item.Intent new)) refl held)
 
--- the texts of a payment intent after a ruling
-settled_texts : (how : Ruling) (intent : Intent) → AreUtf8 (texts_of (item.Intent intent))
-    → AreUtf8 (texts_of (item.Intent (settled_intent how intent)))
-settled_texts ruling.Approved intent texts = approved intent.capture_method
+-- the batch with the version of an attempt after a ruling
+settled_ruled : (state : ViewState) (entry : ℕ) (how : Ruling) (row : Row) (attempt : Attempt) (object : ℕ) → IsReady state
+    → IsAttempt state row attempt → IsRuled state object (with_settled how row attempt (batch_after state entry))
+settled_ruled state entry how row attempt object ready stood = record {
+  continues = continues_version state (batch_after state entry) row (item.Attempt (settled_attempt how attempt)) ready.sound.order
+      (begins state entry) stood.stands (let room = ready.room in omega arith) refl (ap kind_of (sym stood.is)) refl;
+  few = omega arith;
+  disputes = refl;
+  spares = (spares_all object state.rows _ (λ k. absurd (cc)) (λ k. absurd (cc)), tt);
+}
+
+-- what a ruling makes of an attempt and its payment intent
+settled_enters : (state : ViewState) (entry : ℕ) (how : Ruling) (row intent_row : Row) (attempt : Attempt) (intent : Intent)
+    → IsReady state → IsAttempt state row attempt → IsIntent state intent_row intent
+    → AddsSound state (settle_both how row attempt intent_row (batch_after state entry) (Some intent))
+settled_enters state entry how row intent_row attempt intent ready stood there = ruled how
   where
-    approved : (capture : CaptureMethod) → AreUtf8 (texts_of (item.Intent (approved_intent capture intent)))
-    approved capture_method.Automatic = texts
-    approved capture_method.AutomaticAsync = texts
-    approved capture_method.Manual = texts
-settled_texts (ruling.Declined decline) intent texts =
-    failed_texts intent (payment_error.Declined decline) status.RequiresPaymentMethod texts
-settled_texts ruling.Challenge intent texts = texts
+    object : ℕ
+    object = intent_row.object
 
--- what tells of a ruling tells of a payment intent
-settled_subject : (how : Ruling) (capture : CaptureMethod) → kind.Intent ≡ subject_of (settled_event how capture)
-settled_subject ruling.Approved capture_method.Automatic = refl
-settled_subject ruling.Approved capture_method.AutomaticAsync = refl
-settled_subject ruling.Approved capture_method.Manual = refl
-settled_subject (ruling.Declined decline) capture = refl
-settled_subject ruling.Challenge capture = refl
+    account : ℕ
+    account = intent_row.account
 
--- a version of the attempt, one of the payment intent, and the event that tells of it
-settled_enters : (state : ViewState) (key : Option (List ℕ)) (entry : ℕ) (how : Ruling) (row intent_row : Row)
-    (attempt : Attempt) (intent : Intent) → IsReady state key → IsAttempt state row attempt
-    → IsIntent state intent_row intent
-    → MayBeEntered state key (settle_both how row attempt intent_row (batch_after state entry) (Some intent))
-settled_enters state key entry how row intent_row attempt intent ready stood found =
-    let first = settled_row state entry how row attempt in
-    let before = with_settled how row attempt (batch_after state entry) in
-    let version = settled_intent how intent in
-    let object = intent_row.object in
-    let second = next_row before object intent_row.account (item.Intent version) in
-    let sort = settled_event how intent.capture_method in
-    let place = last_place (with_told intent_row.account object version sort before) + 1 in
-    let news = event_row key state.time (first ∷ second ∷ []) place (record { sort = sort; object = object }) in
-    let room = ready.room in
-    let count = more state first in
-    let counts = more (with_next state first) second in
-    let old_texts = ready.sound.texts intent_row.place intent_row found.stands in
-    let texts = subst (λ (content : Item). AreUtf8 (texts_of content)) found.is old_texts in
-    let follows = settled_follows state key entry how row attempt ready stood in
-    let sound = sound_with state first ready.sound follows in
-    let next = further_follows (with_next state first) intent_row second sound
-    (row_at-before intent_row.place state.rows (first ∷ []) intent_row found.stands)
-    (next_second state first second room (omega arith) refl (settled_texts how intent texts))
-    (record { object = refl; account = refl; kind = ap kind_of (sym found.is) })
-    (λ event is. absurd (cc)) in
-    let last = event_follows (with_next (with_next state first) second) second news
-    (record { sort = sort; object = object; key = key })
-    (sound_with (with_next state first) second sound next) (new_stands (with_next state first) second next)
-    (next_third state first second news room (omega arith) refl ready.text) (omega arith)
-    (tells_of key state.time place object (first ∷ second ∷ []) sort second
-    (latest_behind object first second refl) refl (settled_subject how intent.capture_method)) in
-    (follows, (next, (last, tt)))
+    before : Ruling → BatchState
+    before how = with_settled how row attempt (batch_after state entry)
+
+    begun : (how : Ruling) → IsRuled state object (before how)
+    begun how = settled_ruled state entry how row attempt object ready stood
+
+    number : ℕ
+    number = charge_number (before ruling.Approved)
+
+    charge : Charge
+    charge = new_charge object intent charge_status.Succeeded
+
+    later : length state.rows < number
+    later = omega arith
+
+    texts : AreUtf8 (texts_of (item.Intent intent))
+    texts = subst (λ (content : Item). AreUtf8 (texts_of content)) there.is (ready.sound.order.texts intent_row.place intent_row there.stands)
+
+    room : length state.rows + 16 < 10 ^ 16
+    room = ready.room
+
+    apart : object ≡ number → ⊥
+    apart same =
+        let first : intent_row.object ≤ intent_row.place = ready.sound.order.first intent_row.place intent_row there.stands in
+        let within : intent_row.place ≤ length state.rows = (row_at_within intent_row.place state.rows intent_row there.stands).1 in
+        omega arith
+
+    -- the version of the payment intent behind a batch
+    version : Intent → BatchState → Row
+    version new batch = next_row batch object account (item.Intent new)
+
+    captured : BatchState
+    captured = with_announced (with_captured account number charge charge.amount (before ruling.Approved)) event.ChargeSucceeded number
+
+    held : BatchState
+    held = with_announced (with_row (before ruling.Approved) number account (item.Charge charge)) event.ChargeSucceeded number
+
+    first_spares : (how : Ruling) → Spares object state.rows (next_row (batch_after state entry) row.object row.account (item.Attempt (settled_attempt how attempt)))
+    first_spares how = (begun how).spares.0
+
+    -- captured at once
+    whole : (new : Intent) → status.Succeeded ≡ new.status → AreUtf8 (texts_of (item.Intent new)) → Continues state captured
+        → ((behind : List Row) → ((charge : ℕ) → list_any (touches charge) behind ≡ false) → HaveSums (state.rows ++ (captured.rows ++ behind)))
+        → MayBeEntered state (with_told account object new event.IntentSucceeded captured)
+    whole new succeeded new_texts continues sums =
+        ruled_enters state intent_row intent new event.IntentSucceeded captured ready there
+        (record {
+          continues = continues;
+          few = omega arith;
+          disputes = refl;
+          spares = (first_spares ruling.Approved, (spares_new state object _ ready.sound.order refl later, (spares_all object state.rows _ (λ k. absurd (cc)) (λ k. absurd (cc)), tt)));
+        }) new_texts refl (sums (version new captured ∷ []) (λ other. refl))
+        (λ here. absurd (let clash : status.Succeeded ≡ status.RequiresCapture = succeeded ∙ here in cc))
+
+    approved_is : CaptureMethod → BatchState
+    approved_is capture = with_announced (with_approved capture account number charge (before ruling.Approved)) event.ChargeSucceeded number
+
+    continues_by : (capture : CaptureMethod) → intent.capture_method ≡ capture → Continues state (approved_is capture)
+    continues_by capture e =
+        subst (λ (c : CaptureMethod). Continues state (approved_is c)) e
+        (approval_continues state (before ruling.Approved) account object intent ready.sound.order (begun ruling.Approved).continues (omega arith) texts)
+
+    sums_by : (capture : CaptureMethod) → intent.capture_method ≡ capture → (behind : List Row)
+        → ((charge : ℕ) → list_any (touches charge) behind ≡ false) → HaveSums (state.rows ++ ((approved_is capture).rows ++ behind))
+    sums_by capture e behind untouched =
+        subst (λ (c : CaptureMethod). HaveSums (state.rows ++ ((approved_is c).rows ++ behind))) e
+        (approval_keeps state account object intent (before ruling.Approved) behind ready.sound refl (λ other. refl) untouched)
+
+    approved : (capture : CaptureMethod) → intent.capture_method ≡ capture
+        → MayBeEntered state (with_told account object (with_latest_charge (Some number) (approved_intent capture intent)) (approved_event capture) (approved_is capture))
+    approved capture_method.Automatic e =
+        whole (with_latest_charge (Some number) (approved_intent capture_method.Automatic intent)) refl texts
+        (continues_by capture_method.Automatic e) (sums_by capture_method.Automatic e)
+    approved capture_method.AutomaticAsync e =
+        whole (with_latest_charge (Some number) (approved_intent capture_method.AutomaticAsync intent)) refl texts
+        (continues_by capture_method.AutomaticAsync e) (sums_by capture_method.AutomaticAsync e)
+    approved capture_method.Manual e =
+        let new = with_latest_charge (Some number) (approved_intent capture_method.Manual intent) in
+        let known = ap (option_and_then (λ (r : Row). charge_in r.item))
+            (other_version state.rows held number object account (item.Intent new) apart
+            ∙ last_version state.rows (before ruling.Approved) number account (item.Charge charge)) in
+        ruled_enters state intent_row intent new event.IntentAmountCapturableUpdated held ready there
+        (record {
+          continues = continues_by capture_method.Manual e;
+          few = omega arith;
+          disputes = refl;
+          spares = (first_spares ruling.Approved, (spares_new state object _ ready.sound.order refl later, tt));
+        }) texts refl (sums_by capture_method.Manual e (version new held ∷ []) (λ other. refl))
+        (λ here. subst (IsHeldBy object new) (sym known) (record { intent = refl; amount = omega arith; nothing = refl }))
+
+    ruled : (how : Ruling)
+        → AddsSound state (settle_both how row attempt intent_row (batch_after state entry) (Some intent))
+    ruled ruling.Approved = approved intent.capture_method refl
+    ruled (ruling.Declined decline) =
+        let batch = decline_of account object intent (before (ruling.Declined decline)) in
+        let new = settled_intent (ruling.Declined decline) (Some number) intent in
+        ruled_enters state intent_row intent new event.IntentPaymentFailed batch ready there
+        (record {
+          continues = decline_continues state (before (ruling.Declined decline)) account object intent ready.sound.order
+              (begun (ruling.Declined decline)).continues (omega arith) texts;
+          few = omega arith;
+          disputes = refl;
+          spares = (first_spares (ruling.Declined decline), (spares_new state object _ ready.sound.order refl later, tt));
+        }) (failed_texts intent (payment_error.Declined decline) status.RequiresPaymentMethod texts) refl
+        (decline_keeps state account object intent (before (ruling.Declined decline)) (version new batch ∷ []) ready.sound refl (λ other. refl) (λ other. refl))
+        (λ here. absurd (cc))
+    ruled ruling.Challenge =
+        let batch = before ruling.Challenge in
+        let new = settled_intent ruling.Challenge intent.latest_charge intent in
+        ruled_enters state intent_row intent new event.IntentRequiresAction batch ready there (begun ruling.Challenge) texts refl
+        (λ other. sums_stay other state.rows (batch.rows ++ version new batch ∷ []) refl (ready.sound.charges other))
+        (λ here. absurd (cc))
+
+-- nothing may be entered
+nothing_enters : (state : ViewState) (entry : ℕ) → IsSound state → MayBeEntered state (batch_after state entry)
+nothing_enters state entry sound = record {
+  began = refl;
+  at = refl;
+  follow = tt;
+  charges = subst HaveSums (sym (append-nil state.rows)) sound.charges;
+  held = subst AreHeld (sym (append-nil state.rows)) sound.held;
+  disputes = subst HaveMoves (sym (append-nil state.rows)) sound.disputes;
+  told = tt;
+}
 
 pub settle_keeps : SettleKeepsSound
-settle_keeps state entry attempt how key ready = at (latest_of attempt state.rows) refl
+settle_keeps state entry attempt how ready = at (latest_of attempt state.rows) refl
   where
     intent_item : (row intent_row : Row) (attempt : Attempt) → IsAttempt state row attempt
         → row_at intent_row.place state.rows ≡ Some intent_row → (content : Item) → intent_row.item ≡ content
-        → MayBeEntered state key (settle_both how row attempt intent_row (batch_after state entry) (intent_in content))
-    intent_item row intent_row attempt stood stands (item.Account account) e = tt
+        → AddsSound state (settle_both how row attempt intent_row (batch_after state entry) (intent_in content))
+    intent_item row intent_row attempt stood stands (item.Account account) e = nothing_enters state entry ready.sound
     intent_item row intent_row attempt stood stands (item.Intent intent) e =
-        settled_enters state key entry how row intent_row attempt intent ready stood (record { stands = stands; is = e })
-    intent_item row intent_row attempt stood stands (item.Attempt other) e = tt
-    intent_item row intent_row attempt stood stands (item.Event event) e = tt
+        settled_enters state entry how row intent_row attempt intent ready stood (record { stands = stands; is = e })
+    intent_item row intent_row attempt stood stands (item.Attempt other) e = nothing_enters state entry ready.sound
+    intent_item row intent_row attempt stood stands (item.Charge charge) e = nothing_enters state entry ready.sound
+    intent_item row intent_row attempt stood stands (item.Refund refund) e = nothing_enters state entry ready.sound
+    intent_item row intent_row attempt stood stands (item.Dispute dispute) e = nothing_enters state entry ready.sound
+    intent_item row intent_row attempt stood stands (item.Txn txn) e = nothing_enters state entry ready.sound
+    intent_item row intent_row attempt stood stands (item.Event event) e = nothing_enters state entry ready.sound
 
     intent_at : (row : Row) (attempt : Attempt) → IsAttempt state row attempt
         → (found : Option Row) → latest_of attempt.intent state.rows ≡ found
-        → MayBeEntered state key (settle_intent how row attempt (batch_after state entry) found)
-    intent_at row attempt stood None e = tt
+        → AddsSound state (settle_intent how row attempt (batch_after state entry) found)
+    intent_at row attempt stood None e = nothing_enters state entry ready.sound
     intent_at row attempt stood (Some intent_row) e =
         let stands = (latest_of_sound state attempt.intent intent_row ready.sound e).0 in
         intent_item row intent_row attempt stood stands intent_row.item refl
 
     attempt_item : (row : Row) → row_at row.place state.rows ≡ Some row → (content : Item) → row.item ≡ content
-        → MayBeEntered state key (settle_attempt state.rows how row (batch_after state entry) (attempt_in content))
-    attempt_item row stands (item.Account account) e = tt
-    attempt_item row stands (item.Intent intent) e = tt
+        → AddsSound state (settle_attempt state.rows how row (batch_after state entry) (attempt_in content))
+    attempt_item row stands (item.Account account) e = nothing_enters state entry ready.sound
+    attempt_item row stands (item.Intent intent) e = nothing_enters state entry ready.sound
     attempt_item row stands (item.Attempt attempt) e =
         intent_at row attempt (record { stands = stands; is = e }) (latest_of attempt.intent state.rows) refl
-    attempt_item row stands (item.Event event) e = tt
+    attempt_item row stands (item.Charge charge) e = nothing_enters state entry ready.sound
+    attempt_item row stands (item.Refund refund) e = nothing_enters state entry ready.sound
+    attempt_item row stands (item.Dispute dispute) e = nothing_enters state entry ready.sound
+    attempt_item row stands (item.Txn txn) e = nothing_enters state entry ready.sound
+    attempt_item row stands (item.Event event) e = nothing_enters state entry ready.sound
 
     at : (found : Option Row) → latest_of attempt state.rows ≡ found
-        → MayBeEntered state key (settle_row state.rows how (batch_after state entry) found)
-    at None e = tt
+        → AddsSound state (settle_row state.rows how (batch_after state entry) found)
+    at None e = nothing_enters state entry ready.sound
     at (Some row) e = attempt_item row (latest_of_sound state attempt row ready.sound e).0 row.item refl

@@ -62,16 +62,15 @@ past_it available account currency time row rows other =
 -- a balance over rows is the one over the transactions among them
 pub transactions_count : OnlyTransactionsCount
 transactions_count [] available account currency time = refl
-transactions_count (row ∷ rows) available account currency time = at (is_txn row) refl
+transactions_count (row ∷ rows) available account currency time =
+    at (is_txn row) refl (transactions_count rows available account currency time)
   where
-    rest : balance_of available account currency time (filter is_txn rows) ≡ balance_of available account currency time rows
-    rest = transactions_count rows available account currency time
-
     at : (b : Bool) → is_txn row ≡ b
+        → balance_of available account currency time (filter is_txn rows) ≡ balance_of available account currency time rows
         → balance_of available account currency time (cond b (row ∷ filter is_txn rows) (filter is_txn rows))
         ≡ balance_of available account currency time (row ∷ rows)
-    at true e =
+    at true e rest =
         balance_of-cons available account currency time row (filter is_txn rows)
         ∙ ap (λ (sum : ℤ). balance_of available account currency time (row ∷ []) +ℤ sum) rest
         ∙ sym (balance_of-cons available account currency time row rows)
-    at false e = rest ∙ past_it available account currency time row rows e
+    at false e rest = rest ∙ past_it available account currency time row rows e

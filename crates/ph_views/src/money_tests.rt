@@ -7,7 +7,8 @@ use ph_json::text;
 use ph_money::{Amount, Currency, SignedAmount};
 use ph_rows::{
     Capture, CaptureMethod, Charge, ChargeStatus, Dispute, DisputeStatus, EventKind, Intent,
-    IntentStatus, Item, ListView, PaymentMethod, Refund, RefundReason, Txn, TxnSource, TxnType,
+    IntentStatus, Item, ListView, PaymentMethod, Refund, RefundReason, Row, Txn, TxnSource,
+    TxnType,
 };
 use std::alloc::Global;
 use std::process::Abort;
@@ -69,8 +70,7 @@ const BALANCE_AFTER: &str =
 const BALANCE_TWO: &str =
     "{\"available\":[{\"amount\":-2599,\"currency\":\"jpy\"},{\"amount\":0,\"currency\":\"usd\"}],\"livemode\":false,\"object\":\"balance\",\"pending\":[{\"amount\":0,\"currency\":\"jpy\"},{\"amount\":1037,\"currency\":\"usd\"}]}";
 
-const CLOCK: &str =
-    "{\"now\":253402300799,\"object\":\"payhost.clock\"}";
+const CLOCK: &str = "{\"now\":253402300799,\"object\":\"payhost.clock\"}";
 
 // The charge 6 of the intent 2: 1099 usd, captured at once with the transaction 7.
 fn charge(alloc: Global) -> Result<Charge, NoMemory> {
@@ -101,11 +101,7 @@ fn held(alloc: Global) -> Result<Charge, NoMemory> {
     })
 }
 
-fn method(
-    alloc: Global,
-    text: &str,
-    method: Method,
-) -> Result<Option<PaymentMethod>, NoMemory> {
+fn method(alloc: Global, text: &str, method: Method) -> Result<Option<PaymentMethod>, NoMemory> {
     let text = bytes(alloc, text)?;
     Ok(Some(PaymentMethod { text, method }))
 }
@@ -164,12 +160,9 @@ fn dispute(status: DisputeStatus) -> Dispute {
     }
 }
 
-// The intent 2 is created, and paid by the charge 6 with the transaction 7; the event 9 tells of the charge. Then the
-// refund 11 gives all of it back with the transaction 12, and the charge gets another version.
-fn payment(alloc: Global) -> Result<ListView, NoMemory> {
-    let mut refunded = charge(alloc)?;
-    refunded.amount_refunded = Amount::new(1099);
-    let refund = Refund {
+// The refund 11 of the whole charge, for which the transaction 12 takes it back.
+fn refund(alloc: Global) -> Result<Refund, NoMemory> {
+    Ok(Refund {
         charge: 6,
         intent: 2,
         amount: Amount::new(1099),
@@ -177,15 +170,29 @@ fn payment(alloc: Global) -> Result<ListView, NoMemory> {
         reason: Some(RefundReason::RequestedByCustomer),
         metadata: metadata(alloc, &[("é", "\"")])?,
         transaction: 12,
-    };
-    let taken = Txn {
+    })
+}
+
+fn taken_back() -> Txn {
+    Txn {
         sort: TxnType::Refund,
         amount: SignedAmount::taken(Amount::new(1099)),
         fee: SignedAmount::new(0),
         currency: Currency::Usd,
         available_on: OPENED + 172900,
         source: TxnSource::Refund(11),
-    };
+    }
+}
+
+// The charge after it.
+fn refunded(alloc: Global) -> Result<Charge, NoMemory> {
+    let mut charge = charge(alloc)?;
+    charge.amount_refunded = Amount::new(1099);
+    Ok(charge)
+}
+
+// The intent 2 is created, and its event 3; two other accounts.
+fn first_rows(alloc: Global) -> Result<Vec<Row>, NoMemory> {
     let created = EventKind::IntentCreated;
     let rows = vec![in alloc;
         row(1, 1, OPENED, 1, Item::Account(account(alloc))),
@@ -193,28 +200,46 @@ fn payment(alloc: Global) -> Result<ListView, NoMemory> {
         row(3, 3, OPENED, 1, event(created, 2, None)),
         row(4, 4, OPENED, 1, Item::Account(account(alloc))),
         row(5, 5, OPENED, 1, Item::Account(account(alloc))),
-        row(6, 6, OPENED + 100, 1, Item::Charge(charge(alloc)?)),
-        row(7, 7, OPENED + 100, 1, Item::Txn(captured())),
-        row(8, 2, OPENED + 100, 1, Item::Intent(paid(alloc)?)),
-        row(
-            9,
-            9,
-            OPENED + 100,
-            1,
-            event(EventKind::ChargeSucceeded, 6, None)
-        ),
-        row(
-            10,
-            10,
-            OPENED + 100,
-            1,
-            event(EventKind::IntentSucceeded, 2, None)
-        ),
-        row(11, 11, OPENED + 200, 1, Item::Refund(refund)),
-        row(12, 12, OPENED + 200, 1, Item::Txn(taken)),
-        row(13, 6, OPENED + 200, 1, Item::Charge(refunded)),
     ]?;
-    view_of(alloc, rows)
+    Ok(rows)
+}
+
+// It is paid by the charge 6 with the transaction 7; the event 9 tells of the charge.
+fn paying_rows(alloc: Global) -> Result<Vec<Row>, NoMemory> {
+    let at = OPENED + 100;
+    let rows = vec![in alloc;
+        row(6, 6, at, 1, Item::Charge(charge(alloc)?)),
+        row(7, 7, at, 1, Item::Txn(captured())),
+        row(8, 2, at, 1, Item::Intent(paid(alloc)?)),
+        row(9, 9, at, 1, event(EventKind::ChargeSucceeded, 6, None)),
+        row(10, 10, at, 1, event(EventKind::IntentSucceeded, 2, None)),
+    ]?;
+    Ok(rows)
+}
+
+// The refund 11 gives all of it back with the transaction 12, and the charge gets another version.
+fn refunding_rows(alloc: Global) -> Result<Vec<Row>, NoMemory> {
+    let at = OPENED + 200;
+    let rows = vec![in alloc;
+        row(11, 11, at, 1, Item::Refund(refund(alloc)?)),
+        row(12, 12, at, 1, Item::Txn(taken_back())),
+        row(13, 6, at, 1, Item::Charge(refunded(alloc)?)),
+    ]?;
+    Ok(rows)
+}
+
+// The payment, and then its refund.
+fn payment(alloc: Global) -> Result<ListView, NoMemory> {
+    let mut view = view_of(alloc, first_rows(alloc)?)?;
+    add(&mut view, paying_rows(alloc)?)?;
+    add(&mut view, refunding_rows(alloc)?)?;
+    Ok(view)
+}
+
+fn add(view: &mut ListView, rows: Vec<Row>) -> Result<(), NoMemory> {
+    view.reserve(rows.len())?;
+    view.append_reserved(rows);
+    Ok(())
 }
 
 #[test]

@@ -96,7 +96,10 @@ pub fn bytes(alloc: Global, text: &str) -> Result<Bytes, NoMemory> {
     Bytes::from_slice(alloc, text.as_bytes())
 }
 
-pub fn metadata(alloc: Global, pairs: &[(&'static str, &'static str)]) -> Result<Metadata, NoMemory> {
+pub fn metadata(
+    alloc: Global,
+    pairs: &[(&'static str, &'static str)],
+) -> Result<Metadata, NoMemory> {
     let mut metadata = Metadata::new(alloc);
     for (key, value) in pairs {
         metadata.set(bytes(alloc, key)?, bytes(alloc, value)?)?;

@@ -1,4 +1,5 @@
-use Rattle.ph_intents.proofs.KeepsLemmas.{create_keeps, create_confirmed_keeps, update_keeps, confirm_keeps, authenticate_keeps, fail_authentication_keeps, capture_keeps, cancel_keeps}
+use Rattle.ph_intents.proofs.CaptureLemmas.{capture_keeps}
+use Rattle.ph_intents.proofs.KeepsLemmas.{create_keeps, create_confirmed_keeps, update_keeps, confirm_keeps, authenticate_keeps, fail_authentication_keeps, cancel_keeps}
 use Rattle.ph_intents.proofs.laws.calls_keep_sound.Goals as goal
 
 pub returns-clause-create : goal.returns-clause-create

@@ -1,8 +1,7 @@
-use Rattle.std.specs.Prelude.{ℤ, List, [], ◌∷◌, codes}
+use Rattle.std.specs.Prelude.{ℤ, [], ◌∷◌, codes}
 use Rattle.std.proofs.Common.{ap, ◌∙◌, w64}
 use Rattle.std.proofs.lemmas.Int.{to_z-of_z}
 use Rattle.ph_money.specs.Currencies.{code_of}
-use Rattle.ph_json.specs.declared.doc.Doc.{Doc}
 use Rattle.ph_json.specs.declared.doc.Doc.TheVariants.{Number, Text, Object}
 use Rattle.ph_views.specs.Balances.{sum_doc}
 use Rattle.ph_views.proofs.balances.sum_doc.Goals as goal

@@ -1,0 +1,210 @@
+-- Evidence and closes may be entered.
+use Rattle.std.specs.Prelude.{◌||◌}
+use Rattle.std.proofs.Common.{◌≡◌, ℕ, ◌+◌, ◌^◌, ◌≤◌, ◌<◌, Bool, true, false, cond, List, [], ◌∷◌, ◌++◌, Option, None, Some, length, refl, sym, ap, ◌∙◌, subst, arith}
+use Rattle.std.specs.List.{list_all, list_any}
+use Rattle.std.specs.Str.{is_utf8}
+use Rattle.std.proofs.lemmas.Bool.{cond_both, eq-eqb, false≢true, ne_eqb}
+use Rattle.std.proofs.lemmas.List.{append-nil, length-append}
+use Rattle.ph_calls.specs.declared.call.CloseDispute.{CloseDispute}
+use Rattle.ph_calls.specs.declared.call.SendEvidence.{SendEvidence}
+use Rattle.ph_calls.specs.Keeps.{AddsSound, AreUtf8, IsReady, KeepsSound, batch_after, no_texts}
+use Rattle.ph_calls.specs.Outcomes.{Outcome, Refuses, Adds}
+use Rattle.ph_errors.specs.Table.{error_of, DisputeClosed}
+use Rattle.ph_rows.specs.declared.rows.Row.{Row}
+use Rattle.ph_rows.specs.declared.disputes.Dispute.{Dispute}
+use Rattle.ph_rows.specs.declared.disputes.DisputeStatus.{DisputeStatus}
+use Rattle.ph_rows.specs.declared.disputes.DisputeStatus.TheVariants as status
+use Rattle.ph_rows.specs.declared.event_kinds.EventKind.TheVariants as event
+use Rattle.ph_rows.specs.declared.items.Item.{Item}
+use Rattle.ph_rows.specs.declared.items.Item.TheVariants as item
+use Rattle.ph_rows.specs.Batches.{BatchState, last_place, next_row}
+use Rattle.ph_rows.specs.Entering.{IsToldBy, MayBeEntered}
+use Rattle.ph_rows.specs.Kinds.{kind_of}
+use Rattle.ph_rows.specs.Origins.{HasOrigin}
+use Rattle.ph_rows.specs.Rows.{row_at, latest_of}
+use Rattle.ph_rows.specs.Sound.{AllMayFollow, AreHeld, HaveMoves, HaveSums, IsInOrder, IsSound, MayFollow, with_next}
+use Rattle.ph_rows.specs.Transactions.{given_move, moves_in, moves_of, taken_move}
+use Rattle.ph_rows.specs.Views.{ViewState}
+use Rattle.ph_rows.specs.Weights.{texts_of}
+use Rattle.ph_rows.proofs.AmountLemmas.{latest_of-last, sums_beside}
+use Rattle.ph_rows.proofs.FollowLemmas.{first_follows, further_follows, origin_stands}
+use Rattle.ph_rows.proofs.HeldLemmas.{held_beside, is_version, latest_of-apart}
+use Rattle.ph_rows.proofs.MoveLemmas.{concerns, moves_of_version}
+use Rattle.ph_rows.proofs.SoundLemmas.{order_with, order_with_all, row_at-before, row_at_within}
+use Rattle.ph_disputes.specs.Answers.{answered_dispute, evidence_of, evidence_outcome, given_txn, verdict_on, with_evidence, with_verdict}
+use Rattle.ph_disputes.specs.Closing.{close_of, close_outcome, lost_dispute, with_closed, with_version}
+use Rattle.ph_disputes.specs.Finding.{if_open, is_closed}
+use Rattle.ph_disputes.specs.Laws.{evidence_texts}
+use Rattle.ph_disputes.proofs.FoundLemmas.{IsFound, holds_at}
+
+-- a dispute that isn't closed has taken its amount and its fee, and given nothing
+open_moves : (now : DisputeStatus) (amount : ℕ) → is_closed now ≡ false → moves_in now amount ≡ taken_move amount ∷ []
+open_moves status.NeedsResponse amount e = refl
+open_moves status.UnderReview amount e = refl
+open_moves status.Won amount e = absurd (false≢true (sym e))
+open_moves status.Lost amount e = refl
+
+-- a further version of a dispute that isn't closed, behind the rows of a view
+module _ (state : ViewState) (entry : ℕ) (row : Row) (dispute after : Dispute) (ready : IsReady state)
+    (found : IsFound state.rows row dispute) (open_still : is_closed dispute.status ≡ false)
+    (texts : list_all is_utf8 (texts_of (item.Dispute after)) ≡ true) where
+  abbrev begun : BatchState
+  begun = batch_after state entry
+
+  room : length state.rows + 16 < 10 ^ 16
+  room = ready.room
+
+  order : IsInOrder state
+  order = ready.sound.order
+
+  abbrev version : Row
+  version = next_row begun row.object row.account (item.Dispute after)
+
+  version_follows : MayFollow state version
+  version_follows =
+      further_follows state row version order found.stands
+      (record { few = omega arith; place = omega arith; at = refl; texts = texts })
+      (record { object = refl; account = refl; kind = sym (ap kind_of found.is) }) refl
+
+  taken : moves_of row.object state.rows ≡ taken_move dispute.amount ∷ []
+  taken = ready.sound.disputes row.object row dispute found.latest found.is ∙ open_moves dispute.status dispute.amount open_still
+
+  alone_in_order : IsInOrder (record state { rows = state.rows ++ version ∷ [] })
+  alone_in_order = order_with state version order version_follows
+
+  -- it is told, or not
+  pub version_enters : taken_move dispute.amount ∷ [] ≡ moves_in after.status after.amount
+      → MayBeEntered state (with_version row after begun)
+  version_enters same = record {
+    began = refl;
+    at = refl;
+    follow = (version_follows, tt);
+    charges = sums_beside state.rows (version ∷ []) refl ready.sound.charges;
+    held = held_beside state (version ∷ []) order alone_in_order (tt, tt) ready.sound.held;
+    disputes = moves_of_version state.rows [] version after ready.sound.disputes refl refl (λ other differs. refl)
+        (append-nil (moves_of row.object state.rows) ∙ taken ∙ same);
+    told = tt;
+  }
+
+  told_of_version : (more : List Row) → list_any (is_version row.object) more ≡ false
+      → IsToldBy (latest_of row.object (version ∷ more)) event.DisputeClosed
+  told_of_version more apart =
+      subst (λ (o : Option Row). IsToldBy o event.DisputeClosed)
+      (sym (latest_of-apart row.object (version ∷ []) more apart ∙ latest_of-last [] version)) refl
+
+  pub closed_enters : taken_move dispute.amount ∷ [] ≡ moves_in after.status after.amount
+      → MayBeEntered state (with_closed row (with_version row after begun))
+  closed_enters same =
+      let enters = version_enters same in
+      record {
+        began = refl;
+        at = refl;
+        follow = enters.follow;
+        charges = enters.charges;
+        held = enters.held;
+        disputes = enters.disputes;
+        told = (told_of_version [] refl, tt);
+      }
+
+  abbrev versioned : BatchState
+  versioned = with_version row after begun
+
+  abbrev given : Row
+  given = next_row versioned (last_place versioned + 1) row.account (item.Txn (given_txn row.object dispute begun.at))
+
+  abbrev second : ViewState
+  second = with_next state version
+
+  count_second : length second.rows ≡ length state.rows + 1
+  count_second = length-append state.rows (version ∷ [])
+
+  source : HasOrigin second.rows (Some (record { kind = kind_of (item.Dispute dispute); number = row.object }))
+  source =
+      subst (λ (content : Item). HasOrigin second.rows (Some (record { kind = kind_of content; number = row.object }))) found.is
+      (origin_stands second row alone_in_order (row_at-before row.place state.rows (version ∷ []) row found.stands))
+
+  given_follows : MayFollow second given
+  given_follows =
+      let counted = count_second in
+      first_follows second given (record { few = omega arith; place = omega arith; at = refl; texts = refl }) (omega arith)
+      source (λ event is. absurd (cc))
+
+  both_follow : AllMayFollow state (version ∷ given ∷ [])
+  both_follow = (version_follows, (given_follows, tt))
+
+  both_in_order : IsInOrder (record state { rows = state.rows ++ version ∷ given ∷ [] })
+  both_in_order = order_with_all state (version ∷ given ∷ []) order both_follow
+
+  given_is_later : given.object ≡ row.object → ⊥
+  given_is_later same =
+      let first : row.object ≤ row.place = order.first row.place row found.stands in
+      let within : row.place ≤ length state.rows = (row_at_within row.place state.rows row found.stands).1 in
+      omega arith
+
+  no_version : list_any (is_version row.object) (given ∷ []) ≡ false
+  no_version = ap (λ (b : Bool). b || false) (ne_eqb given.object row.object given_is_later)
+
+  given_back : moves_of row.object (given ∷ []) ≡ given_move dispute.amount ∷ []
+  given_back = ap (λ (b : Bool). cond b (given_move dispute.amount ∷ []) [] ++ []) (eq-eqb row.object row.object refl)
+
+  pub won_enters : taken_move dispute.amount ∷ given_move dispute.amount ∷ [] ≡ moves_in after.status after.amount
+      → MayBeEntered state (with_verdict status.Won row dispute (with_version row after begun))
+  won_enters same = record {
+    began = refl;
+    at = refl;
+    follow = both_follow;
+    charges = sums_beside state.rows (version ∷ given ∷ []) refl ready.sound.charges;
+    held = held_beside state (version ∷ given ∷ []) order both_in_order (tt, (tt, tt)) ready.sound.held;
+    disputes = moves_of_version state.rows (given ∷ []) version after ready.sound.disputes refl no_version
+        (λ other differs. ap (λ (b : Bool). b || false) (ne_eqb row.object other (λ alike. differs (sym alike))))
+        (ap (λ front. front ++ moves_of row.object (given ∷ [])) taken ∙ ap (λ back. (taken_move dispute.amount ∷ []) ++ back) given_back ∙ same);
+    told = (told_of_version (given ∷ []) no_version, tt);
+  }
+
+-- what is made of a dispute that isn't closed may be entered, where its batch may
+if_open_adds : (state : ViewState) (now : DisputeStatus) (object : ℕ) (batch : BatchState)
+    → (is_closed now ≡ false → MayBeEntered state batch) → AddsSound state (if_open now object batch)
+if_open_adds state now object batch enters =
+    cond_both (is_closed now) (Refuses (error_of DisputeClosed)) (Adds object batch) (AddsSound state) (λ closed. tt) enters
+
+-- what a close adds may be entered
+pub close_keeps : KeepsSound no_texts close_outcome
+close_keeps state entry account call ready texts =
+    holds_at (AddsSound state) state (close_of (batch_after state entry)) account call.id ready.sound tt
+    (λ row dispute found.
+    if_open_adds state dispute.status row.object
+    (with_closed row (with_version row (lost_dispute dispute) (batch_after state entry)))
+    (λ still. closed_enters state entry row dispute (lost_dispute dispute) ready found still (kept row dispute found) refl))
+  where
+    kept : (row : Row) (dispute : Dispute) → IsFound state.rows row dispute
+        → list_all is_utf8 (texts_of (item.Dispute dispute)) ≡ true
+    kept row dispute found =
+        subst (λ (content : Item). list_all is_utf8 (texts_of content) ≡ true) found.is
+        (ready.sound.order.texts row.place row found.stands)
+
+-- what follows from a verdict may be entered
+verdict_enters : (state : ViewState) (entry : ℕ) (row : Row) (dispute after : Dispute) (now : DisputeStatus) → IsReady state
+    → IsFound state.rows row dispute → is_closed dispute.status ≡ false
+    → list_all is_utf8 (texts_of (item.Dispute after)) ≡ true → after.amount ≡ dispute.amount → after.status ≡ now
+    → MayBeEntered state (with_verdict now row dispute (with_version row after (batch_after state entry)))
+verdict_enters state entry row dispute after now ready found still texts amount is = at now is
+  where
+    moves : (to : DisputeStatus) → after.status ≡ to → moves_in to dispute.amount ≡ moves_in after.status after.amount
+    moves to e = ap (λ (s : DisputeStatus). moves_in s dispute.amount) (sym e) ∙ ap (moves_in after.status) (sym amount)
+
+    at : (to : DisputeStatus) → after.status ≡ to
+        → MayBeEntered state (with_verdict to row dispute (with_version row after (batch_after state entry)))
+    at status.NeedsResponse e = version_enters state entry row dispute after ready found still texts (moves status.NeedsResponse e)
+    at status.UnderReview e = version_enters state entry row dispute after ready found still texts (moves status.UnderReview e)
+    at status.Won e = won_enters state entry row dispute after ready found still texts (moves status.Won e)
+    at status.Lost e = closed_enters state entry row dispute after ready found still texts (moves status.Lost e)
+
+-- what evidence adds may be entered
+pub evidence_keeps : KeepsSound evidence_texts evidence_outcome
+evidence_keeps state entry account call ready texts =
+    holds_at (AddsSound state) state (evidence_of call.uncategorized_text (batch_after state entry)) account call.id ready.sound tt
+    (λ row dispute found.
+    if_open_adds state dispute.status row.object (with_evidence call.uncategorized_text row dispute (batch_after state entry))
+    (λ still.
+    verdict_enters state entry row dispute (answered_dispute call.uncategorized_text dispute) (verdict_on call.uncategorized_text)
+    ready found still texts refl refl))

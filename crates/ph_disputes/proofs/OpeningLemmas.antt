@@ -1,0 +1,330 @@
+-- An opening may be entered with the batch to which it is added.
+use Rattle.std.specs.Prelude.{◌||◌, ◌-ℤ◌, option_and_then, neg_ℤ}
+use Rattle.std.proofs.Common.{◌≡◌, ℕ, ◌+◌, ◌^◌, ◌≤◌, ◌<◌, Bool, true, false, cond, eqb, List, [], ◌∷◌, ◌++◌, Option, None, Some, length, refl, sym, ap, ◌∙◌, subst, arith, pos}
+use Rattle.std.specs.List.{fold, list_all, list_any}
+use Rattle.std.specs.Option.{option_or}
+use Rattle.std.specs.Str.{is_utf8}
+use Rattle.std.proofs.lemmas.Bool.{eq-eqb, ne_eqb}
+use Rattle.std.proofs.lemmas.Int.{ints}
+use Rattle.std.proofs.lemmas.List.{append_assoc, length-append}
+use Rattle.ph_rows.specs.declared.rows.Row.{Row}
+use Rattle.ph_rows.specs.declared.batches.Announced.{Announced}
+use Rattle.ph_rows.specs.declared.charges.Charge.{Charge}
+use Rattle.ph_rows.specs.declared.disputes.Dispute.{Dispute}
+use Rattle.ph_rows.specs.declared.event_kinds.EventKind.TheVariants as event
+use Rattle.ph_rows.specs.declared.items.Item.{Item}
+use Rattle.ph_rows.specs.declared.items.Item.TheVariants as item
+use Rattle.ph_rows.specs.Batches.{BatchState, last_place, next_row, version_with}
+use Rattle.ph_rows.specs.Entering.{AreTold, IsToldBy, MayBeEntered}
+use Rattle.ph_rows.specs.Items.{charge_in}
+use Rattle.ph_rows.specs.Kinds.{kind_of}
+use Rattle.ph_rows.specs.Origins.{HasOrigin}
+use Rattle.ph_rows.specs.Rows.{row_at, later_version, latest_of}
+use Rattle.ph_rows.specs.Sound.{AllMayFollow, AreHeld, HasSums, HaveMoves, HaveSums, IsInOrder, IsSound, MayFollow, charge_of, with_next}
+use Rattle.ph_rows.specs.Transactions.{dispute_fee, moves_of, taken_move, Move}
+use Rattle.ph_rows.specs.Views.{ViewState}
+use Rattle.ph_rows.specs.Weights.{texts_of}
+use Rattle.ph_rows.proofs.AmountLemmas.{KeepsAmounts, kept_sums, latest_of-last}
+use Rattle.ph_rows.proofs.EnterLemmas.{told_with}
+use Rattle.ph_rows.proofs.FollowLemmas.{first_follows, follow_both, further_follows, origin_stands}
+use Rattle.ph_rows.proofs.HeldLemmas.{held_beside, is_version, latest_from, latest_of-apart}
+use Rattle.ph_rows.proofs.MoveLemmas.{concerns, moves_of-later, moves_of_version}
+use Rattle.ph_rows.proofs.SoundLemmas.{latest_of_sound, order_with, order_with_all, row_at-before, row_at-next, row_at_within}
+use Rattle.ph_disputes.specs.Due.{due_charge, open_due_of, opening_due}
+use Rattle.ph_disputes.specs.Laws.{OpeningKeepsSound}
+use Rattle.ph_disputes.specs.Opening.{disputed_charge, new_dispute, open_of, opening_in, opening_of, opening_rows, taken_txn, with_dispute, with_taken}
+use Rattle.ph_disputes.proofs.HeldLemmas.{held_version}
+
+-- a row is the present version of a charge, and stands at its place
+pub record IsCharge (rows : List Row) (row : Row) (charge : Charge) : Type 0 where
+  pub stands : row_at row.place rows ≡ Some row
+  pub latest : latest_of row.object rows ≡ Some row
+  pub is : row.item ≡ item.Charge charge
+
+-- what is taken, by its amount below 0
+taken_is : (amount : ℕ) → taken_move amount ≡ record { amount = neg_ℤ (pos amount); fee = pos dispute_fee }
+taken_is amount = ap (λ z. record { amount = z; fee = pos dispute_fee }) (let same : pos 0 -ℤ pos amount ≡ neg_ℤ (pos amount) = omega (arith, ints) in same)
+
+-- the rows of a dispute of a charge, behind sound rows and at the next places
+module _ (state : ViewState) (batch : BatchState) (row : Row) (charge : Charge) (sound : IsSound state)
+    (room : length state.rows + 3 < 10 ^ 16) (last : last_place batch ≡ length state.rows) (now : batch.at ≡ state.time)
+    (found : IsCharge state.rows row charge) where
+  abbrev pub number : ℕ
+  number = last_place batch + 1
+
+  abbrev pub disputing : BatchState
+  disputing = with_dispute row.account (new_dispute row.object charge) batch
+
+  abbrev pub taking : BatchState
+  taking = with_taken row.account number charge disputing
+
+  abbrev pub opened : Row
+  opened = next_row batch number row.account (item.Dispute (new_dispute row.object charge))
+
+  abbrev pub txn : Row
+  txn = next_row disputing (last_place disputing + 1) row.account (item.Txn (taken_txn number charge batch.at))
+
+  abbrev pub after : Charge
+  after = disputed_charge number charge
+
+  abbrev pub kept : Row
+  kept = next_row taking row.object row.account (item.Charge after)
+
+  abbrev pub opening : List Row
+  opening = opened ∷ txn ∷ kept ∷ []
+
+  order : IsInOrder state
+  order = sound.order
+
+  abbrev pub second : ViewState
+  second = with_next state opened
+
+  abbrev pub third : ViewState
+  third = with_next second txn
+
+  count_second : length second.rows ≡ length state.rows + 1
+  count_second = length-append state.rows (opened ∷ [])
+
+  count_third : length third.rows ≡ length second.rows + 1
+  count_third = length-append second.rows (txn ∷ [])
+
+  count_disputing : length disputing.rows ≡ length batch.rows + 1
+  count_disputing = length-append batch.rows (opened ∷ [])
+
+  count_taking : length taking.rows ≡ length disputing.rows + 1
+  count_taking = length-append disputing.rows (txn ∷ [])
+
+  opened_follows : MayFollow state opened
+  opened_follows =
+      first_follows state opened (record { few = omega arith; place = omega arith; at = now; texts = refl }) (omega arith) tt
+      (λ event is. absurd (cc))
+
+  order_second : IsInOrder second
+  order_second = order_with state opened order opened_follows
+
+  opened_stands : row_at opened.place second.rows ≡ Some opened
+  opened_stands = subst (λ (place : ℕ). row_at place second.rows ≡ Some opened) (sym opened_follows.place) (row_at-next state.rows opened)
+
+  source : HasOrigin second.rows (Some (record { kind = kind_of (item.Dispute (new_dispute row.object charge)); number = number }))
+  source = origin_stands second opened order_second opened_stands
+
+  txn_follows : MayFollow second txn
+  txn_follows =
+      let one = count_second in
+      let two = count_disputing in
+      first_follows second txn (record { few = omega arith; place = omega arith; at = now; texts = refl }) (omega arith) source
+      (λ event is. absurd (cc))
+
+  order_third : IsInOrder third
+  order_third = order_with second txn order_second txn_follows
+
+  stands : row_at row.place third.rows ≡ Some row
+  stands = row_at-before row.place second.rows (txn ∷ []) row (row_at-before row.place state.rows (opened ∷ []) row found.stands)
+
+  texts : list_all is_utf8 (texts_of (item.Charge charge)) ≡ true
+  texts = subst (λ (content : Item). list_all is_utf8 (texts_of content) ≡ true) found.is (order.texts row.place row found.stands)
+
+  kept_follows : MayFollow third kept
+  kept_follows =
+      let one = count_second in
+      let two = count_third in
+      let three = count_disputing in
+      let four = count_taking in
+      further_follows third row kept order_third stands
+      (record { few = omega arith; place = omega arith; at = now; texts = texts })
+      (record { object = refl; account = refl; kind = sym (ap kind_of found.is) }) refl
+
+  pub opening_follows : AllMayFollow state opening
+  opening_follows = (opened_follows, (txn_follows, (kept_follows, tt)))
+
+  sums : HasSums row.object charge state.rows
+  sums = sound.charges row.object row charge found.latest found.is
+
+  keeps : KeepsAmounts charge after
+  keeps = record { amount = refl; captured = refl; refunded = refl }
+
+  pub opening_sums : HaveSums (state.rows ++ opening)
+  opening_sums = kept_sums state.rows (opened ∷ txn ∷ []) kept charge after sound.charges sums keeps refl refl
+
+  row_within : row.object ≤ length state.rows
+  row_within =
+      let first : row.object ≤ row.place = order.first row.place row found.stands in
+      let within : row.place ≤ length state.rows = (row_at_within row.place state.rows row found.stands).1 in
+      omega arith
+
+  opened_is_later : number ≡ row.object → ⊥
+  opened_is_later same = let within = row_within in omega arith
+
+  txn_is_later : txn.object ≡ row.object → ⊥
+  txn_is_later same = let within = row_within in let counted = count_disputing in omega arith
+
+  latest_third : latest_of row.object third.rows ≡ Some row
+  latest_third =
+      latest_of-apart row.object second.rows (txn ∷ []) (ap (λ (b : Bool). b || false) (ne_eqb txn.object row.object txn_is_later))
+      ∙ latest_of-apart row.object state.rows (opened ∷ []) (ap (λ (b : Bool). b || false) (ne_eqb number row.object opened_is_later))
+      ∙ found.latest
+
+  known : charge_of third.rows row.object ≡ Some charge
+  known = ap (option_and_then (λ (r : Row). charge_in r.item)) latest_third ∙ ap charge_in found.is
+
+  held_third : AreHeld third.rows
+  held_third =
+      held_beside second (txn ∷ []) order_second order_third (tt, tt)
+      (held_beside state (opened ∷ []) order order_second (tt, tt) sound.held)
+
+  pub opening_held : AreHeld (state.rows ++ opening)
+  opening_held =
+      subst AreHeld (append_assoc second.rows (txn ∷ []) (kept ∷ []) ∙ append_assoc state.rows (opened ∷ []) (txn ∷ kept ∷ []))
+      (held_version third.rows kept charge after held_third known refl (record { intent = refl; amount = refl; captured = refl }))
+
+  kept_differs : row.object ≡ number → ⊥
+  kept_differs same = opened_is_later (sym same)
+
+  txn_differs : txn.object ≡ number → ⊥
+  txn_differs same = let counted = count_disputing in omega arith
+
+  no_version : list_any (is_version number) (txn ∷ kept ∷ []) ≡ false
+  no_version =
+      ap (λ (b : Bool). b || ((eqb row.object number) || false)) (ne_eqb txn.object number txn_differs)
+      ∙ ap (λ (b : Bool). b || false) (ne_eqb row.object number kept_differs)
+
+  nothing_before : moves_of number state.rows ≡ []
+  nothing_before = moves_of-later state number order (omega arith)
+
+  moved : moves_of number (txn ∷ kept ∷ []) ≡ taken_move charge.amount_captured ∷ []
+  moved =
+      ap (λ (b : Bool). cond b (record { amount = neg_ℤ (pos charge.amount_captured); fee = pos dispute_fee } ∷ []) [] ++ [])
+      (eq-eqb number number refl)
+      ∙ ap (λ (move : Move). move ∷ []) (sym (taken_is charge.amount_captured))
+
+  pub opening_moves : HaveMoves (state.rows ++ opening)
+  opening_moves =
+      moves_of_version state.rows (txn ∷ kept ∷ []) opened (new_dispute row.object charge) sound.disputes refl no_version
+      (λ other differs. ap (λ (b : Bool). b || false) (ne_eqb number other (λ same. differs (sym same))))
+      (ap (λ front. front ++ moves_of number (txn ∷ kept ∷ [])) nothing_before ∙ moved)
+
+  pub opening_latest : (rows : List Row) → latest_of number (rows ++ opening) ≡ Some opened
+  opening_latest rows =
+      ap (latest_of number) (sym (append_assoc rows (opened ∷ []) (txn ∷ kept ∷ [])))
+      ∙ latest_of-apart number (rows ++ opened ∷ []) (txn ∷ kept ∷ []) no_version
+      ∙ latest_of-last rows opened
+
+-- announcements and one more
+told_push : (rows : List Row) (announced : List Announced) (told : Announced) → AreTold rows announced
+    → IsToldBy (latest_of told.object rows) told.sort → AreTold rows (announced ++ told ∷ [])
+told_push rows [] told tells last = (last, tt)
+told_push rows (first ∷ announced) told tells last = (tells.0, told_push rows announced told tells.1 last)
+
+-- the view with the rows of a batch that may be entered is sound
+whole_sound : (state : ViewState) (batch : BatchState) → IsSound state → MayBeEntered state batch
+    → IsSound (record state { rows = state.rows ++ batch.rows })
+whole_sound state batch sound enters = record {
+  order = order_with_all state batch.rows sound.order enters.follow;
+  charges = enters.charges;
+  held = enters.held;
+  disputes = enters.disputes;
+}
+
+-- the opening of a dispute of a charge may be entered with the batch to which it is added
+opening_enters : (state : ViewState) (batch : BatchState) (row : Row) (charge : Charge) → IsSound state → MayBeEntered state batch
+    → length state.rows + length batch.rows + 3 < 10 ^ 16 → IsCharge (state.rows ++ batch.rows) row charge
+    → MayBeEntered state (opening_rows row.account row.object charge (last_place batch + 1) batch)
+opening_enters state batch row charge sound enters room found = record {
+  began = enters.began;
+  at = enters.at;
+  follow = subst (AllMayFollow state) (sym grouped) (follow_both state batch.rows more enters.follow follows);
+  charges = subst HaveSums (sym apart) (opening_sums whole batch row charge steady few last enters.at found);
+  held = subst AreHeld (sym apart) (opening_held whole batch row charge steady few last enters.at found);
+  disputes = subst HaveMoves (sym apart) (opening_moves whole batch row charge steady few last enters.at found);
+  told = subst (λ (rows : List Row). AreTold rows (batch.announced ++ news ∷ [])) (sym grouped)
+      (told_push (batch.rows ++ more) batch.announced news
+      (told_with state batch.rows more batch.announced (order_with_all state (batch.rows ++ more) sound.order (follow_both state batch.rows more enters.follow follows)) enters.told)
+      (subst (λ (o : Option Row). IsToldBy o event.DisputeCreated)
+      (sym (opening_latest whole batch row charge steady few last enters.at found batch.rows)) refl));
+}
+  where
+    whole : ViewState
+    whole = record state { rows = state.rows ++ batch.rows }
+
+    steady : IsSound whole
+    steady = whole_sound state batch sound enters
+
+    count : length whole.rows ≡ length state.rows + length batch.rows
+    count = length-append state.rows batch.rows
+
+    few : length whole.rows + 3 < 10 ^ 16
+    few = let counted = count in omega arith
+
+    last : last_place batch ≡ length whole.rows
+    last = let counted = count in let began : batch.began ≡ length state.rows = enters.began in omega arith
+
+    more : List Row
+    more = opening whole batch row charge steady few last enters.at found
+
+    follows : AllMayFollow whole more
+    follows = opening_follows whole batch row charge steady few last enters.at found
+
+    news : Announced
+    news = record { sort = event.DisputeCreated; object = last_place batch + 1 }
+
+    grouped : (opening_rows row.account row.object charge (last_place batch + 1) batch).rows ≡ batch.rows ++ more
+    grouped = simp append_assoc
+
+    apart : state.rows ++ (opening_rows row.account row.object charge (last_place batch + 1) batch).rows ≡ whole.rows ++ more
+    apart = ap (λ (rows : List Row). state.rows ++ rows) grouped ∙ sym (append_assoc state.rows batch.rows more)
+
+-- the last version of an object over rows, and over more behind them
+fold_or : (object : ℕ) (found : Option Row) (more : List Row)
+    → fold (later_version object) found more ≡ option_or (latest_of object more) found
+fold_or object found [] = refl
+fold_or object found (x ∷ more) =
+    fold_or object (later_version object found x) more
+    ∙ either (latest_of object more) (eqb x.object object)
+    ∙ ap (λ (o : Option Row). option_or o found) (sym (fold_or object (later_version object None x) more))
+  where
+    either : (o : Option Row) (b : Bool) → option_or o (cond b (Some x) found) ≡ option_or (option_or o (cond b (Some x) None)) found
+    either None true = refl
+    either None false = refl
+    either (Some last) b = refl
+
+-- what the opening of a dispute of a charge adds may be entered
+pub open_keeps : OpeningKeepsSound open_of
+open_keeps state batch object sound enters room = at (version_with state.rows batch object) refl
+  where
+    latest : (row : Row) → version_with state.rows batch object ≡ Some row → latest_of object (state.rows ++ batch.rows) ≡ Some row
+    latest row e = latest_from object None state.rows batch.rows ∙ fold_or object (latest_of object state.rows) batch.rows ∙ e
+
+    charge_is : (content : Item) (charge : Charge) → charge_in content ≡ Some charge → content ≡ item.Charge charge
+    charge_is (item.Account account) charge e = absurd (cc)
+    charge_is (item.Intent intent) charge e = absurd (cc)
+    charge_is (item.Attempt attempt) charge e = absurd (cc)
+    charge_is (item.Charge version) charge e = (let same : version ≡ charge = cc in ap (λ (c : Charge). item.Charge c) same)
+    charge_is (item.Refund refund) charge e = absurd (cc)
+    charge_is (item.Dispute dispute) charge e = absurd (cc)
+    charge_is (item.Txn txn) charge e = absurd (cc)
+    charge_is (item.Event event) charge e = absurd (cc)
+
+    of_charge : (row : Row) → version_with state.rows batch object ≡ Some row → (o : Option Charge) → charge_in row.item ≡ o
+        → MayBeEntered state (opening_of row.account object batch o)
+    of_charge row e None is = enters
+    of_charge row e (Some charge) is =
+        let steady = whole_sound state batch sound enters in
+        let stood = latest_of_sound (record state { rows = state.rows ++ batch.rows }) object row steady (latest row e) in
+        subst (λ (n : ℕ). MayBeEntered state (opening_rows row.account n charge (last_place batch + 1) batch)) stood.1
+        (opening_enters state batch row charge sound enters room (record {
+          stands = stood.0;
+          latest = subst (λ (n : ℕ). latest_of n (state.rows ++ batch.rows) ≡ Some row) (sym stood.1) (latest row e);
+          is = charge_is row.item charge is;
+        }))
+
+    at : (o : Option Row) → version_with state.rows batch object ≡ o → MayBeEntered state (opening_in object batch o)
+    at None e = enters
+    at (Some row) e = of_charge row e (charge_in row.item) refl
+
+-- what the opening of a dispute that is due adds may be entered
+pub open_due_keeps : OpeningKeepsSound open_due_of
+open_due_keeps state batch intent sound enters room = at (due_charge batch.rows intent)
+  where
+    at : (charge : Option ℕ) → MayBeEntered state (opening_due state.rows batch charge)
+    at None = enters
+    at (Some charge) = open_keeps state batch charge sound enters room

@@ -1,0 +1,127 @@
+-- What a capture adds may be entered after sound rows.
+use Rattle.std.specs.Prelude.{option_and_then}
+use Rattle.std.proofs.Common.{◌≡◌, ℕ, ◌+◌, ◌≤◌, ◌==◌, ◌||◌, false, nat_lt, List, [], ◌∷◌, ◌++◌, Option, None, Some, length, refl, sym, ap, ◌∙◌, subst, arith, codes, unwrap_or}
+use Rattle.std.proofs.lemmas.Bool.{cond_both}
+use Rattle.std.proofs.lemmas.Bool.Decides.{nat_tests}
+use Rattle.ph_charges.specs.Charges.{with_captured}
+use Rattle.ph_charges.proofs.EntryLemmas.{capture_continues}
+use Rattle.ph_charges.proofs.SumLemmas as sums
+use Rattle.ph_rows.specs.declared.rows.Row.{Row}
+use Rattle.ph_rows.specs.declared.charges.Charge.{Charge}
+use Rattle.ph_rows.specs.declared.event_kinds.EventKind.TheVariants as event
+use Rattle.ph_rows.specs.declared.intents.Intent.{Intent}
+use Rattle.ph_rows.specs.declared.intents.IntentStatus.{IntentStatus}
+use Rattle.ph_rows.specs.declared.intents.IntentStatus.TheVariants as status
+use Rattle.ph_rows.specs.declared.items.Item.{Item}
+use Rattle.ph_rows.specs.declared.items.Item.TheVariants as item
+use Rattle.ph_rows.specs.Batches.{BatchState, next_row, with_row, with_announced}
+use Rattle.ph_rows.specs.Entering.{MayBeEntered}
+use Rattle.ph_rows.specs.Items.{charge_in}
+use Rattle.ph_rows.specs.Kinds.{kind_of}
+use Rattle.ph_rows.specs.Rows.{latest_of}
+use Rattle.ph_rows.specs.Sound.{HaveSums, Holds, IsHeldBy, charge_of}
+use Rattle.ph_rows.specs.Views.{ViewState}
+use Rattle.ph_rows.proofs.BatchLemmas.{Continues, continues_told, continues_version}
+use Rattle.ph_rows.proofs.ChargeLemmas.{second_fails}
+use Rattle.ph_intents.specs.Capture.{capture_of, capture_outcome, capture_amount, received_intent, with_charge_captured}
+use Rattle.ph_intents.specs.Keeps.{AddsSound, IsReady, KeepsSound, batch_after, no_texts}
+use Rattle.ph_intents.specs.Refusals.{invalid_value}
+use Rattle.ph_intents.specs.Statuses.{next_status}
+use Rattle.ph_intents.specs.Versions.{adds_told, with_told}
+use Rattle.ph_intents.specs.declared.statuses.Step.TheVariants as step
+use Rattle.ph_intents.proofs.EnterLemmas.{begins, enters, last_version}
+use Rattle.ph_intents.proofs.FoundLemmas.{IsFound, found_texts, keeps_allowed, keeps_at}
+use Rattle.ph_intents.proofs.HoldLemmas.{Each, HasCharge, Spares, charge_row, held_known}
+use Rattle.ph_intents.proofs.StatusLemmas.{captured_step}
+
+-- a capture of a charge that holds a payment intent, of no more than can be captured
+captured_enters : (state : ViewState) (entry account : ℕ) (row : Row) (intent : Intent) (n : ℕ) (last : Row) (charge : Charge)
+    (amount : ℕ) (found : IntentStatus) → IsReady state → IsFound state account row intent → latest_of n state.rows ≡ Some last
+    → last.item ≡ item.Charge charge → Holds row.object intent charge → amount ≤ intent.amount_capturable
+    → status.Succeeded ≡ found
+    → MayBeEntered state (with_told account row.object (received_intent amount intent found) event.IntentSucceeded (with_charge_captured state.rows amount (Some n) (batch_after state entry)))
+captured_enters state entry account row intent n last charge amount found ready there latest is holds within succeeded =
+    subst (λ (b : BatchState). MayBeEntered state (with_told account row.object received event.IntentSucceeded b)) (sym captured_is)
+    (enters state (with_told account row.object received event.IntentSucceeded captured) row.object ready.sound told kept refl spares
+    (held_known row.object (state.rows ++ (captured.rows ++ version ∷ [])) version received
+    (last_version state.rows captured row.object account (item.Intent received)) refl
+    (λ here. absurd (let e : status.Succeeded ≡ status.RequiresCapture = succeeded ∙ here in cc))))
+  where
+    batch : BatchState
+    batch = batch_after state entry
+
+    received : Intent
+    received = received_intent amount intent found
+
+    captured : BatchState
+    captured = with_announced (with_captured last.account n charge amount batch) event.ChargeCaptured n
+
+    version : Row
+    version = next_row captured row.object account (item.Intent received)
+
+    captured_is : with_charge_captured state.rows amount (Some n) batch ≡ captured
+    captured_is = sums.capture_is state.rows n amount batch last charge refl latest is
+
+    told : Continues state (with_told account row.object received event.IntentSucceeded captured)
+    told =
+        let room = ready.room in
+        continues_told state captured row.object account (item.Intent received) event.IntentSucceeded
+        (subst (λ (owner : ℕ). Continues state (with_row captured row.object owner (item.Intent received))) there.owner
+        (continues_version state captured row (item.Intent received) ready.sound.order
+        (capture_continues state batch n amount last charge ready.sound (begins state entry) (omega arith) latest is)
+        there.stands (omega arith) (found_texts state account row intent ready.sound there) (ap kind_of (sym there.is)) refl)) refl
+
+    kept : HaveSums (state.rows ++ (captured.rows ++ version ∷ []))
+    kept =
+        let enough : intent.amount_capturable ≤ charge.amount = holds.amount in
+        subst (λ (b : BatchState). HaveSums (state.rows ++ (b.rows ++ version ∷ []))) captured_is
+        (sums.capture_keeps state n amount batch (version ∷ []) last charge ready.sound refl refl latest is holds.nothing
+        (omega arith) (λ other. refl) (λ other. refl))
+
+    mine : (other : Charge) → charge_of state.rows n ≡ Some other → other.intent ≡ row.object
+    mine other e =
+        let known : charge_of state.rows n ≡ Some charge = ap (option_and_then (λ (r : Row). charge_in r.item)) latest ∙ ap charge_in is in
+        let same : charge ≡ other = (let both : Some charge ≡ Some other = sym known ∙ e in cc) in
+        subst (λ (c : Charge). c.intent ≡ row.object) same holds.intent
+
+    spares : Each (Spares row.object state.rows) (captured.rows ++ version ∷ [])
+    spares =
+        (record { intent = λ k. absurd (cc); charge = λ k other e. mine other e },
+        (record { intent = λ k. absurd (cc); charge = λ k other e. absurd (cc) },
+        (record { intent = λ k. refl; charge = λ k other e. absurd (cc) }, tt)))
+
+pub capture_keeps : KeepsSound no_texts capture_outcome
+capture_keeps state entry account call ready texts =
+    keeps_at (capture_of state.rows account call.amount_to_capture (batch_after state entry)) state account call.id ready.sound
+    (λ row intent found.
+    let amount = unwrap_or call.amount_to_capture intent.amount_capturable in
+    keeps_allowed state (capture_amount state.rows account amount (batch_after state entry) row.object intent)
+    (next_status intent.status step.Capture)
+    (λ status to. of_amount row intent found status amount (captured_step intent.status status to)))
+  where
+    of_charge : (row : Row) (intent : Intent) → IsFound state account row intent → (found : IntentStatus) (amount : ℕ)
+        → amount ≤ intent.amount_capturable → status.Succeeded ≡ found → (latest : Option ℕ)
+        → IsHeldBy row.object intent (option_and_then (charge_of state.rows) latest)
+        → MayBeEntered state (with_told account row.object (received_intent amount intent found) event.IntentSucceeded (with_charge_captured state.rows amount latest (batch_after state entry)))
+    of_charge row intent there found amount within succeeded None held = absurd held
+    of_charge row intent there found amount within succeeded (Some n) held = at (charge_of state.rows n) refl held
+      where
+        at : (charge : Option Charge) → charge_of state.rows n ≡ charge → IsHeldBy row.object intent charge
+            → MayBeEntered state (with_told account row.object (received_intent amount intent found) event.IntentSucceeded (with_charge_captured state.rows amount (Some n) (batch_after state entry)))
+        at None e held = absurd held
+        at (Some charge) e held =
+            let last = charge_row state.rows n charge e in
+            captured_enters state entry account row intent n last.row charge amount found ready there last.latest last.is held within succeeded
+
+    of_amount : (row : Row) (intent : Intent) → IsFound state account row intent → (found : IntentStatus) (amount : ℕ)
+        → (intent.status ≡ status.RequiresCapture) × (status.Succeeded ≡ found)
+        → AddsSound state (capture_amount state.rows account amount (batch_after state entry) row.object intent found)
+    of_amount row intent there found amount step =
+        let received = received_intent amount intent found in
+        cond_both ((amount == 0) || nat_lt intent.amount_capturable amount) (invalid_value (codes "amount_to_capture"))
+        (adds_told account row.object received event.IntentSucceeded (with_charge_captured state.rows amount intent.latest_charge (batch_after state entry)))
+        (AddsSound state) (λ out. tt)
+        (λ bounds.
+        let no_more : nat_lt intent.amount_capturable amount ≡ false = second_fails (amount == 0) (nat_lt intent.amount_capturable amount) bounds in
+        of_charge row intent there found amount (grind (arith, nat_tests)) step.1 intent.latest_charge
+        (ready.sound.held row.object row intent there.latest there.is step.0))
