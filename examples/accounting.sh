@@ -26,8 +26,9 @@ requests() {
     # A payment of 20.00 usd to be captured later, and 15.00 captured: the fee is that of 1500, 74.
     request POST /v1/payment_intents 'amount=2000&currency=usd&payment_method=pm_card_visa&capture_method=manual&confirm=true'
     request POST /v1/payment_intents/pi_0000000000000011/capture 'amount_to_capture=1500'
-    # 1,000 yen that are available at once: another currency is another balance.
+    # 1,000 yen that are available at once: the fee is 3.6% and nothing fixed, 36.
     request POST /v1/payment_intents 'amount=1000&currency=jpy&payment_method=pm_card_bypassPending&confirm=true'
+    # Another currency is another balance: 964 jpy are available, and of usd 1912 are available and 1426 pending.
     request GET /v1/balance ''
 }
 

@@ -21,14 +21,15 @@ requests() {
     request GET /v1/balance ''
     # A payment whose customer goes to the bank at once: the charge is ch_0000000000000023.
     request POST /v1/payment_intents 'amount=2000&currency=usd&payment_method=pm_card_createDispute&confirm=true'
-    # The dispute has taken the amount, and a fee of 15.00.
+    # The dispute dp_0000000000000026 has taken the amount, and a fee of 15.00: available is -3500, pending 1824.
     request GET /v1/disputes/dp_0000000000000026 ''
     request GET /v1/balance ''
     # While it isn't won, nothing can be refunded: 400, charge_disputed.
     request POST /v1/refunds 'charge=ch_0000000000000023'
-    # Evidence that wins gives the amount back, but not the fee; then a refund is possible again.
+    # Evidence that wins gives the amount back, but not the fee; then a refund is possible again: re_0000000000000035.
     request POST /v1/disputes/dp_0000000000000026 'evidence[uncategorized_text]=winning_evidence'
     request POST /v1/refunds 'charge=ch_0000000000000023&amount=500'
+    # Available is -1500, pending 1324.
     request GET /v1/balance ''
     # A dispute that is closed is closed: 400.
     request POST /v1/disputes/dp_0000000000000026/close ''

@@ -18,11 +18,15 @@ use Rattle.ph_http.specs.Replies.{is_status}
 use Rattle.ph_calls.specs.declared.call.Call.{Call}
 use Rattle.ph_calls.specs.declared.call.Call.TheVariants as call
 use Rattle.ph_calls.specs.declared.call.CreateIntent.{CreateIntent}
+use Rattle.ph_calls.specs.declared.call.CreateRefund.{CreateRefund}
+use Rattle.ph_calls.specs.declared.call.SetClock.{SetClock}
 use Rattle.ph_calls.specs.declared.row.Name.{Name}
 use Rattle.ph_calls.specs.declared.row.Name.TheVariants as name
 use Rattle.ph_calls.specs.Table.{Parameter, Line}
-use Rattle.ph_calls.specs.Check.{flawed, missing, error_by, error_with, first_error, is_known, unknown_error, error_in}
+use Rattle.ph_calls.specs.Check.{flawed, missing, error_by, error_with, first_error, first_that_holds, is_known, unknown_error, error_in}
+use Rattle.ph_calls.specs.Clock.{set_clock, set_clock_error}
 use Rattle.ph_calls.specs.Intents.{create_intent, create_intent_error}
+use Rattle.ph_calls.specs.Refunds.{create_refund, create_refund_error}
 use Rattle.ph_calls.specs.Reading.{fault_of, unless_error, call_of, reading_by, reading_at, reading_of}
 use Rattle.ph_calls.specs.Routes.{Route, Nowhere, To}
 
@@ -41,6 +45,11 @@ IfError (Some error) = IsAnswered error
 abbrev pub IfRefused : {X : Type 0} → Result X ApiError → Type 0
 IfRefused (Ok made) = Unit {0}
 IfRefused (Err error) = IsAnswered error
+
+-- the errors of these checks have
+abbrev pub AllAnswered : List (Bool × ApiError) → Type 0
+AllAnswered [] = Unit {0}
+AllAnswered (check ∷ checks) = IsAnswered check.1 × AllAnswered checks
 
 -- every error of the table but those of a park that the acquirer didn't answer
 abbrev pub AnsweredAt : Problem → Type 0
@@ -133,14 +142,20 @@ unless_answered : {X : Type 0} (error : Option ApiError) (made : Result X ApiErr
 unless_answered None made p q = q
 unless_answered (Some error) made p q = p
 
--- the further checks of a create
+-- further checks
+checks_answered : (checks : List (Bool × ApiError)) → AllAnswered checks → IfError (first_that_holds checks)
+checks_answered [] all = tt
+checks_answered (check ∷ checks) all =
+    chosen IfError check.0 (Some check.1) (first_that_holds checks) all.0 (checks_answered checks all.1)
+
 create_answered : (c : CreateIntent) → IfError (create_intent_error c)
-create_answered c =
-    let second : Option ApiError =
-    cond (c.confirm && is_none c.payment_method) (Some (error_of (ParameterMissing (codes "payment_method")))) None in
-    chosen IfError (nat_lt c.amount (terms_of c.currency).minimum) (Some (error_of AmountTooSmall)) second (answered AmountTooSmall)
-    (chosen IfError (c.confirm && is_none c.payment_method) (Some (error_of (ParameterMissing (codes "payment_method")))) None
-    (answered (ParameterMissing (codes "payment_method"))) tt)
+create_answered c = checks_answered _ (answered AmountTooSmall, (answered (ParameterMissing (codes "payment_method")), tt))
+
+refund_answered : (c : CreateRefund) → IfError (create_refund_error c)
+refund_answered c = checks_answered _ (answered (ParameterMissing (codes "charge")), (answered (InvalidValue (codes "amount")), tt))
+
+clock_answered : (c : SetClock) → IfError (set_clock_error c)
+clock_answered c = checks_answered _ (answered (ParameterInvalidInteger (codes "now")), tt)
 
 -- a call that is refused by its further checks
 call_answered : (called : Name) (id : List ℕ) (leaves : List Leaf) → IfRefused (call_of called id leaves)
@@ -152,6 +167,19 @@ call_answered name.UpdateIntent id leaves = tt
 call_answered name.ConfirmIntent id leaves = tt
 call_answered name.CaptureIntent id leaves = tt
 call_answered name.CancelIntent id leaves = tt
+call_answered name.GetCharge id leaves = tt
+call_answered name.CreateRefund id leaves =
+    unless_answered (create_refund_error (create_refund leaves)) (Ok (call.CreateRefund (create_refund leaves)))
+    (refund_answered (create_refund leaves)) tt
+call_answered name.GetRefund id leaves = tt
+call_answered name.GetDispute id leaves = tt
+call_answered name.SendEvidence id leaves = tt
+call_answered name.CloseDispute id leaves = tt
+call_answered name.GetBalance id leaves = tt
+call_answered name.GetTxn id leaves = tt
+call_answered name.SetClock id leaves =
+    unless_answered (set_clock_error (set_clock leaves)) (Ok (call.SetClock (set_clock leaves)))
+    (clock_answered (set_clock leaves)) tt
 call_answered name.Authenticate id leaves = tt
 
 fault_answered : (fault : FormFault) → IsAnswered (error_of (fault_of fault))

@@ -10,10 +10,10 @@ use Rattle.ph_rows.specs.declared.orders.Order.{Order}
 use Rattle.ph_rows.specs.declared.rows.Row.{Row}
 use Rattle.ph_rows.specs.declared.attempts.Attempt.{Attempt}
 use Rattle.ph_rows.specs.Batches.{empty_batch}
+use Rattle.ph_rows.specs.Items.{attempt_in}
 use Rattle.ph_rows.specs.Rows.{latest_of}
 use Rattle.ph_rows.specs.Sound.{clock_limit}
 use Rattle.ph_rows.specs.Weights.{rows_weight}
-use Rattle.ph_intents.specs.Attempts.{attempt_in}
 use Rattle.ph_http.specs.declared.message.Raw.{Raw}
 use Rattle.ph_http.specs.declared.message.Reply.{Reply}
 use Rattle.ph_book.specs.declared.setup.Setup.{Setup}
@@ -30,7 +30,7 @@ use Rattle.ph_book.specs.Replies.{Silence}
 use Rattle.ph_book.specs.Runs.{after_step, is_run, live_of, run_in}
 use Rattle.ph_book.specs.State.{BookState, IsBook}
 use Rattle.ph_book.specs.Tickets.{Holds}
-use Rattle.ph_book.proofs.EffectLemmas.{effect_orderly, history_counted}
+use Rattle.ph_book.proofs.EffectLemmas.{effect_later, effect_orderly, history_counted}
 use Rattle.ph_book.proofs.HistoryLemmas.{book_more, effect_is, may_come}
 use Rattle.ph_book.proofs.RunLemmas.{AreKept, IsNext, entry_of_run, found_begun, found_is, live_begun, live_parked, live_settled, none_above}
 
@@ -87,6 +87,18 @@ call_book old setup history rows time weight attempts live caller raw new step n
     subst (λ (x : BookState). (effect_to x.setup x.history (call_entry caller raw)).now ≡ now) (sym is) timed in
     book_more setup history rows time weight attempts live (call_entry caller raw) new step now live' b
     (may_come setup history caller (deed.Call raw) below tt tt room_here) made_here step_here now_here counted
+
+-- a call sets the time of a book no earlier
+pub call_time : (old : BookState) (setup : Setup) (history : List Entry) (rows : List Row) (time weight : ℕ) (attempts : List flights.Attempt) (live caller : ℕ) (raw : Raw) (now : ℕ)
+    → record { setup = setup; history = history } ≡ old → IsBook setup history rows time weight attempts live
+    → (effect_to old.setup old.history (call_entry caller raw)).now ≡ now → time ≤ now
+call_time old setup history rows time weight attempts live caller raw now is b timed =
+    let place : ℕ = length history + 1 in
+    let same : effect_of setup rows time attempts place caller (deed.Call raw) ≡ effect_to setup history (call_entry caller raw) =
+    effect_is setup history rows time weight attempts live place (call_entry caller raw) b refl in
+    let here : (effect_to setup history (call_entry caller raw)).now ≡ now =
+    subst (λ (x : BookState). (effect_to x.setup x.history (call_entry caller raw)).now ≡ now) (sym is) timed in
+    subst (λ n. time ≤ n) (ap (λ (effect : Effect). effect.now) same ∙ here) (effect_later setup rows time attempts place caller (deed.Call raw))
 
 -- the step of a call may be made
 call_next : (old : BookState) (setup : Setup) (history : List Entry) (rows : List Row) (time weight : ℕ) (attempts : List flights.Attempt) (live caller : ℕ) (raw : Raw) (flight : Flight)

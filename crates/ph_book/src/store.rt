@@ -82,7 +82,9 @@ impl Store {
     /// Goes on to a moment, in seconds since 1970. It takes no memory.
     pub fn advance(&mut self, now: u64)
         requires { self.old.time ≤ now }
-        ensures { self.new ≡ record self.old { time = now } }
+        ensures time { self.new.time ≡ now }
+        ensures rows { self.new.rows ≡ self.old.rows }
+        ensures room { self.new.room ≡ self.old.room }
     {
         self.ledger.advance(now);
         self.view.set_time(now);

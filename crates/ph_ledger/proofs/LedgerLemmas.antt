@@ -62,7 +62,8 @@ past_it available account currency time row rows other =
 -- a balance over rows is the one over the transactions among them
 pub transactions_count : OnlyTransactionsCount
 transactions_count [] available account currency time = refl
-transactions_count (row ∷ rows) available account currency time = at (is_txn row) refl (transactions_count rows available account currency time)
+transactions_count (row ∷ rows) available account currency time =
+    at (is_txn row) refl (transactions_count rows available account currency time)
   where
     at : (b : Bool) → is_txn row ≡ b
         → balance_of available account currency time (filter is_txn rows) ≡ balance_of available account currency time rows

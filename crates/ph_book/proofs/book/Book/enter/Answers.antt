@@ -1,10 +1,15 @@
-use Rattle.std.proofs.Common.{refl, ap, ◌∙◌, ◌++◌, ◌∷◌, ◌+◌, [], None, length, length-append, arith}
+use Rattle.std.proofs.Common.{refl, sym, ap, ◌∙◌, ◌++◌, ◌∷◌, ◌+◌, ◌≤◌, [], None, length, length-append, subst, arith}
 use Rattle.ph_rows.specs.Weights.{rows_weight}
 use Rattle.ph_book.specs.Entries.{call_entry}
 use Rattle.ph_book.specs.Legal.{raw_weight}
 use Rattle.ph_book.proofs.HistoryLemmas.{book_is}
-use Rattle.ph_book.proofs.StepLemmas.{call_book, time_now}
+use Rattle.ph_book.proofs.StepLemmas.{call_book, call_time}
 use Rattle.ph_book.proofs.book.Book.enter.Goals as goal
+
+pub advance-requires : goal.advance-requires
+advance-requires c =
+    let later = call_time _ _ _ _ _ _ _ _ c.args.caller c.args.raw c.args.now c.self.view_is c.self.invariant.0 c.requires.now in
+    subst (λ n. n ≤ c.args.now) (sym (c.append_reserved.ensures.time ∙ c.in-Ok.ensures.time)) later
 
 pub invariant_of-self-2 : goal.invariant_of-self-2
 invariant_of-self-2 c =
@@ -14,13 +19,13 @@ invariant_of-self-2 c =
     let weight = c.in-Some.ensures.0 ∙ ap (λ rows. (c.self.inside.weight + raw_weight c.args.raw) + rows_weight rows) c.as_slice.ensures.value in
     let count = ap length c.push_reserved.ensures.items ∙ length-append c.take_room.new.entries.items (call_entry c.args.caller c.args.raw ∷ []) in (
       book_is _ _ _ _ _ _ _ _ _ _ _ _
-          (call_book _ _ _ _ _ _ _ _ c.args.caller c.args.raw c.args.rows.items None _ _ c.self.view_is book c.requires.caller c.requires.room c.requires.rows c.requires.step
-          (c.requires.now ∙ time_now _ _ _ _ _ _ _ _ c.self.view_is book) book.live_is)
-          entries (c.append_reserved.ensures.rows ∙ ap (λ rows. rows ++ c.args.rows.items) c.in-Ok.ensures.rows)
-          (c.append_reserved.ensures.time ∙ c.in-Ok.ensures.time) weight refl,
+          (call_book _ _ _ _ _ _ _ _ c.args.caller c.args.raw c.args.rows.items None c.args.now _ c.self.view_is book c.requires.caller c.requires.room c.requires.rows
+          c.requires.step c.requires.now book.live_is)
+          entries (c.advance.ensures.rows ∙ c.append_reserved.ensures.rows ∙ ap (λ rows. rows ++ c.args.rows.items) c.in-Ok.ensures.rows)
+          c.advance.ensures.time weight refl,
       record {
         for_entries = omega (arith, count, c.in-Ok.ensures.entries_room, c.push_reserved.ensures.capacity);
-        for_rows = omega (arith, c.in-Ok.ensures.rows_room, c.append_reserved.ensures.room, c.args.rows.ok.0, c.len.ensures);
+        for_rows = omega (arith, c.in-Ok.ensures.rows_room, c.append_reserved.ensures.room, c.advance.ensures.room, c.args.rows.ok.0, c.len.ensures);
         for_replies = room.for_replies;
         for_weight = c.in-Some.ensures.1;
       },

@@ -1,11 +1,9 @@
 use Rattle.std.proofs.Common.{refl, sym, ap, ◌∙◌, ◌++◌, ◌∷◌, ◌+◌, [], length, length-append, arith}
 use Rattle.ph_rows.specs.declared.orders.Order.{Order}
-use Rattle.ph_rows.specs.Batches.{empty_batch}
 use Rattle.ph_rows.specs.Weights.{rows_weight}
-use Rattle.ph_intents.specs.Settle.{settle_outcome}
 use Rattle.ph_book.specs.declared.acts.Entry.{Entry}
 use Rattle.ph_book.specs.declared.acts.Deed.TheVariants as deed
-use Rattle.ph_book.specs.History.{Effect, outcome_rows}
+use Rattle.ph_book.specs.History.{Effect, outcome_rows, ruled_outcome}
 use Rattle.ph_book.specs.Replies.{Replies, ruling_reply}
 use Rattle.ph_book.proofs.HistoryLemmas.{book_is}
 use Rattle.ph_book.proofs.StepLemmas.{finish_book, finish_is, held_entry, held_live}
@@ -19,10 +17,10 @@ settle-requires c = record { live = held_entry _ _ _ _ _ _ _ _ c.args.caller c.a
 
 pub invariant_of-self-2 : goal.invariant_of-self-2
 invariant_of-self-2 c =
-    let view = c.self.inside.view in
+    let store = c.self.inside.store in
     let room = c.self.invariant.1 in
     let place = ap (λ n. n + 1) (c.len.ensures ∙ c.self.inside.entries.ok.0) in
-    let made = ap (λ (o : Order). outcome_rows (settle_outcome view.rows o.reference c.args.ruling (empty_batch (length view.rows) view.time (c.len.result + 1)))) (sym c.order.ensures)
+    let made = ap (λ (o : Order). outcome_rows (ruled_outcome store.rows store.time (c.len.result + 1) o.reference c.args.ruling)) (sym c.order.ensures)
     ∙ sym c.in-Ok.ensures.rows in
     let entries = c.push_reserved.ensures.items
     ∙ ap (λ history. history ++ record { caller = c.args.caller; deed = deed.Finish c.run-run.result c.args.ruling } ∷ []) c.in-Ok-take_room.ensures.entries
@@ -46,9 +44,9 @@ invariant_of-self-2 c =
 
 pub returns-clause-said : goal.returns-clause-said
 returns-clause-said c =
-    let view = c.self.inside.view in
+    let store = c.self.inside.store in
     let place = ap (λ n. n + 1) (c.len.ensures ∙ c.self.inside.entries.ok.0) in
     ap (λ (effect : Effect). effect.said) (finish_is _ _ _ _ _ _ _ _ _ c.args.caller c.args.ticket c.args.ruling c.self.view_is c.self.invariant.0 c.requires.own place)
     ∙ ap Replies
-    (ap (λ (o : Order). ruling_reply view.rows c.args.ruling (settle_outcome view.rows o.reference c.args.ruling (empty_batch (length view.rows) view.time (c.len.result + 1)))) (sym c.order.ensures)
+    (ap (λ (o : Order). ruling_reply store.time store.rows c.args.ruling (ruled_outcome store.rows store.time (c.len.result + 1) o.reference c.args.ruling)) (sym c.order.ensures)
     ∙ sym c.in-Ok.ensures.reply)

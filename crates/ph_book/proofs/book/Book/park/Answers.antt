@@ -16,12 +16,12 @@ park-requires c = record { live = held_entry _ _ _ _ _ _ _ _ c.args.caller c.arg
 
 pub invariant_of-self : goal.invariant_of-self
 invariant_of-self c =
-    let view = c.self.inside.view in
+    let store = c.self.inside.store in
     let room = c.self.invariant.1 in
     let place = length c.self.inside.entries.items + 1 in
     let row = option_to_list c.parked_row-row.result in
-    let made = ap (λ (o : Order). parked_rows view.rows view.time place o.reference) (sym c.order.ensures) ∙ sym (c.parked_row-row.ensures place) in
-    let parked = parked_weight view.rows view.time place c.args.ticket.order.reference in
+    let made = ap (λ (o : Order). parked_rows store.rows store.time place o.reference) (sym c.order.ensures) ∙ sym (c.parked_row-row.ensures place) in
+    let parked = parked_weight store.rows store.time place c.args.ticket.order.reference in
     let weighs = sym (ap rows_weight made) ∙ parked.0 in
     let size = ap length made in
     let few = parked.1 in
