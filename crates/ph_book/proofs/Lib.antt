@@ -5,3 +5,4 @@ pub mod HistoryLemmas
 pub mod EffectLemmas
 pub mod LawLemmas
 pub mod StepLemmas
+pub mod StoreLemmas
