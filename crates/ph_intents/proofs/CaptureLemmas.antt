@@ -4,7 +4,7 @@ use Rattle.std.proofs.Common.{◌≡◌, ℕ, ◌+◌, ◌≤◌, ◌==◌, ◌|
 use Rattle.std.proofs.lemmas.Bool.{cond_both}
 use Rattle.std.proofs.lemmas.Bool.Decides.{nat_tests}
 use Rattle.ph_charges.specs.Charges.{with_captured}
-use Rattle.ph_charges.proofs.EntryLemmas.{capture_continues}
+use Rattle.ph_charges.proofs.EntryLemmas.{capture_underway}
 use Rattle.ph_charges.proofs.SumLemmas as sums
 use Rattle.ph_rows.specs.declared.rows.Row.{Row}
 use Rattle.ph_rows.specs.declared.charges.Charge.{Charge}
@@ -21,8 +21,10 @@ use Rattle.ph_rows.specs.Kinds.{kind_of}
 use Rattle.ph_rows.specs.Rows.{latest_of}
 use Rattle.ph_rows.specs.Sound.{HaveSums, Holds, IsHeldBy, charge_of}
 use Rattle.ph_rows.specs.Views.{ViewState}
-use Rattle.ph_rows.proofs.BatchLemmas.{Continues, continues_told, continues_version}
+use Rattle.ph_rows.proofs.BatchLemmas.{IsFurtherOf, MayStand}
 use Rattle.ph_rows.proofs.ChargeLemmas.{second_fails}
+use Rattle.ph_rows.proofs.HeldLemmas.{AllLeave, another_is_apart, held_known}
+use Rattle.ph_rows.proofs.UnderwayLemmas.{IsUnderway, underway_further, underway_told}
 use Rattle.ph_intents.specs.Capture.{capture_of, capture_outcome, capture_amount, received_intent, with_charge_captured}
 use Rattle.ph_intents.specs.Keeps.{AddsSound, IsReady, KeepsSound, batch_after, no_texts}
 use Rattle.ph_intents.specs.Refusals.{invalid_value}
@@ -31,7 +33,7 @@ use Rattle.ph_intents.specs.Versions.{adds_told, with_told}
 use Rattle.ph_intents.specs.declared.statuses.Step.TheVariants as step
 use Rattle.ph_intents.proofs.EnterLemmas.{begins, enters, last_version}
 use Rattle.ph_intents.proofs.FoundLemmas.{IsFound, found_texts, keeps_allowed, keeps_at}
-use Rattle.ph_intents.proofs.HoldLemmas.{Each, HasCharge, Spares, charge_row, held_known}
+use Rattle.ph_intents.proofs.HoldLemmas.{HasCharge, charge_row}
 use Rattle.ph_intents.proofs.StatusLemmas.{captured_step}
 
 -- a capture of a charge that holds a payment intent, of no more than can be captured
@@ -42,7 +44,7 @@ captured_enters : (state : ViewState) (entry account : ℕ) (row : Row) (intent 
     → MayBeEntered state (with_told account row.object (received_intent amount intent found) event.IntentSucceeded (with_charge_captured state.rows amount (Some n) (batch_after state entry)))
 captured_enters state entry account row intent n last charge amount found ready there latest is holds within succeeded =
     subst (λ (b : BatchState). MayBeEntered state (with_told account row.object received event.IntentSucceeded b)) (sym captured_is)
-    (enters state (with_told account row.object received event.IntentSucceeded captured) row.object ready.sound told kept refl spares
+    (enters state (with_told account row.object received event.IntentSucceeded captured) row.object ready.sound told kept refl leave
     (held_known row.object (state.rows ++ (captured.rows ++ version ∷ [])) version received
     (last_version state.rows captured row.object account (item.Intent received)) refl
     (λ here. absurd (let e : status.Succeeded ≡ status.RequiresCapture = succeeded ∙ here in cc))))
@@ -62,14 +64,16 @@ captured_enters state entry account row intent n last charge amount found ready 
     captured_is : with_charge_captured state.rows amount (Some n) batch ≡ captured
     captured_is = sums.capture_is state.rows n amount batch last charge refl latest is
 
-    told : Continues state (with_told account row.object received event.IntentSucceeded captured)
+    told : IsUnderway state (with_told account row.object received event.IntentSucceeded captured)
     told =
         let room = ready.room in
-        continues_told state captured row.object account (item.Intent received) event.IntentSucceeded
-        (subst (λ (owner : ℕ). Continues state (with_row captured row.object owner (item.Intent received))) there.owner
-        (continues_version state captured row (item.Intent received) ready.sound.order
-        (capture_continues state batch n amount last charge ready.sound (begins state entry) (omega arith) latest is)
-        there.stands (omega arith) (found_texts state account row intent ready.sound there) (ap kind_of (sym there.is)) refl)) refl
+        underway_told state captured row.object account (item.Intent received) event.IntentSucceeded
+        (subst (λ (owner : ℕ). IsUnderway state (with_row captured row.object owner (item.Intent received))) there.owner
+        (underway_further state captured row (item.Intent received) ready.sound.order
+        (capture_underway state batch n amount last charge ready.sound (begins state entry) (omega arith) latest is)
+        there.stands (omega arith)
+        (record { texts = found_texts state account row intent ready.sound there; origins = tt; silent = λ event is. absurd (cc) })
+        (record { kind = ap kind_of (sym there.is); changes = refl }))) refl
 
     kept : HaveSums (state.rows ++ (captured.rows ++ version ∷ []))
     kept =
@@ -78,17 +82,13 @@ captured_enters state entry account row intent n last charge amount found ready 
         (sums.capture_keeps state n amount batch (version ∷ []) last charge ready.sound refl refl latest is holds.nothing
         (omega arith) (λ other. refl) (λ other. refl))
 
-    mine : (other : Charge) → charge_of state.rows n ≡ Some other → other.intent ≡ row.object
-    mine other e =
-        let known : charge_of state.rows n ≡ Some charge = ap (option_and_then (λ (r : Row). charge_in r.item)) latest ∙ ap charge_in is in
-        let same : charge ≡ other = (let both : Some charge ≡ Some other = sym known ∙ e in cc) in
-        subst (λ (c : Charge). c.intent ≡ row.object) same holds.intent
+    known : charge_of state.rows n ≡ Some charge
+    known = ap (option_and_then (λ (r : Row). charge_in r.item)) latest ∙ ap charge_in is
 
-    spares : Each (Spares row.object state.rows) (captured.rows ++ version ∷ [])
-    spares =
-        (record { intent = λ k. absurd (cc); charge = λ k other e. mine other e },
-        (record { intent = λ k. absurd (cc); charge = λ k other e. absurd (cc) },
-        (record { intent = λ k. refl; charge = λ k other e. absurd (cc) }, tt)))
+    leave : (other : ℕ) → (other ≡ row.object → ⊥) → AllLeave state.rows other (captured.rows ++ version ∷ [])
+    leave other differs =
+        (another_is_apart state.rows other n charge (ready.sound.held other) known (λ same. differs (sym same ∙ holds.intent)),
+        (tt, (λ same. differs (sym same), tt)))
 
 pub capture_keeps : KeepsSound no_texts capture_outcome
 capture_keeps state entry account call ready texts =

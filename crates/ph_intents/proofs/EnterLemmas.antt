@@ -23,18 +23,21 @@ use Rattle.ph_rows.specs.Sound.{HaveSums, IsHeldAt, IsHeldBy, IsSound, charge_of
 use Rattle.ph_rows.specs.Views.{ViewState}
 use Rattle.ph_rows.specs.Weights.{texts_of}
 use Rattle.ph_rows.specs.Words.{subject_of}
-use Rattle.ph_rows.proofs.BatchLemmas.{Continues, continues_new, continues_told}
+use Rattle.ph_rows.proofs.BatchLemmas.{MayStand}
 use Rattle.ph_rows.proofs.ChargeLemmas.{sums_stay, touches}
+use Rattle.ph_rows.proofs.HeldLemmas.{AllLeave, held_known, held_of_others}
 use Rattle.ph_rows.proofs.MoveLemmas.{is_of_dispute, moves_stay}
+use Rattle.ph_rows.proofs.SoundLemmas.{order_with_all}
+use Rattle.ph_rows.proofs.UnderwayLemmas.{IsUnderway, underway_first, underway_told}
 use Rattle.ph_intents.specs.Attempts.{attempted, new_attempt, with_attempt}
 use Rattle.ph_intents.specs.Create.{created_with}
 use Rattle.ph_intents.specs.Keeps.{AddsSound, AreUtf8, IsReady, batch_after}
 use Rattle.ph_intents.specs.Versions.{adds_told, with_told, with_version}
-use Rattle.ph_intents.proofs.HoldLemmas.{Each, Spares, held_known, held_others, hold_stays}
+use Rattle.ph_intents.proofs.HoldLemmas.{Each, hold_stays}
 
--- the empty batch of an entry continues the view
-pub begins : (state : ViewState) (entry : ℕ) → Continues state (batch_after state entry)
-begins state entry = record { began = refl; at = refl; follow = tt; told = tt }
+-- the empty batch of an entry is under way
+pub begins : (state : ViewState) (entry : ℕ) → IsUnderway state (batch_after state entry)
+begins state entry = record { continues = record { began = refl; at = refl; follow = tt }; told = tt }
 
 -- ---- the present version of an object behind a batch
 
@@ -58,80 +61,65 @@ other_version rows batch object other account content differs =
 
 -- ---- batches of one payment intent
 
--- a batch that continues a sound view may be entered, where the sums are right with it, it has nothing of disputes, and
--- it leaves alone what is held of every payment intent but one that is held
-pub enters : (state : ViewState) (batch : BatchState) (object : ℕ) → IsSound state → Continues state batch
+-- a batch that is under way may be entered, where the sums are right with it, it has nothing of disputes, and it leaves what
+-- is held for every payment intent but one that is held
+pub enters : (state : ViewState) (batch : BatchState) (object : ℕ) → IsSound state → IsUnderway state batch
     → HaveSums (state.rows ++ batch.rows) → list_any is_of_dispute batch.rows ≡ false
-    → Each (Spares object state.rows) batch.rows → IsHeldAt object (state.rows ++ batch.rows) → MayBeEntered state batch
-enters state batch object sound continues sums none spares held = record {
-  began = continues.began;
-  at = continues.at;
-  follow = continues.follow;
-  charges = sums;
-  held = held_others state batch.rows object sound.order continues.follow sound.held spares held;
-  disputes = moves_stay state.rows batch.rows none sound.disputes;
-  told = continues.told;
-}
+    → ((other : ℕ) → (other ≡ object → ⊥) → AllLeave state.rows other batch.rows) → IsHeldAt object (state.rows ++ batch.rows)
+    → MayBeEntered state batch
+enters state batch object sound underway sums none leave held =
+    let continues = underway.continues in
+    record {
+      began = continues.began;
+      at = continues.at;
+      follow = continues.follow;
+      charges = sums;
+      held = held_of_others state batch.rows object sound.order (order_with_all state batch.rows sound.order continues.follow) sound.held held leave;
+      disputes = moves_stay state.rows batch.rows none sound.disputes;
+      told = underway.told;
+    }
 
 -- what a payment intent waits to capture is held by its latest charge in the view
 abbrev pub Waits : ViewState → ℕ → Intent → Type 0
 Waits state object intent =
     intent.status ≡ status.RequiresCapture → IsHeldBy object intent (option_and_then (charge_of state.rows) intent.latest_charge)
 
--- a row is a version of the payment intent, or of an attempt
-record IsPlain (object : ℕ) (row : Row) : Type 0 where
-  intent : kind_of row.item ≡ kind.Intent → row.object ≡ object
-  charge : kind_of row.item ≡ kind.Charge → ⊥
-
-plain_spares : (object : ℕ) (rows more : List Row) → Each (IsPlain object) more → Each (Spares object rows) more
-plain_spares object rows [] plain = tt
-plain_spares object rows (row ∷ more) plain =
-    (record { intent = plain.0.intent; charge = λ is charge e. absurd (plain.0.charge is) }, plain_spares object rows more plain.1)
-
-plain_charges : (object : ℕ) (more : List Row) → Each (IsPlain object) more → Each (λ row. kind_of row.item ≡ kind.Charge → ⊥) more
-plain_charges object [] plain = tt
-plain_charges object (row ∷ more) plain = (plain.0.charge, plain_charges object more plain.1)
-
 -- a batch with versions of a payment intent and attempts
 plain_enters : (state : ViewState) (batch : BatchState) (object : ℕ) (row : Row) (intent : Intent) → IsSound state
-    → Continues state batch → latest_of object (state.rows ++ batch.rows) ≡ Some row → row.item ≡ item.Intent intent
+    → IsUnderway state batch → latest_of object (state.rows ++ batch.rows) ≡ Some row → row.item ≡ item.Intent intent
     → ((charge : ℕ) → list_any (touches charge) batch.rows ≡ false) → list_any is_of_dispute batch.rows ≡ false
-    → Each (IsPlain object) batch.rows → Waits state object intent → MayBeEntered state batch
-plain_enters state batch object row intent sound continues latest is untouched none plain waits =
-    enters state batch object sound continues
-    (λ charge. sums_stay charge state.rows batch.rows (untouched charge) (sound.charges charge)) none
-    (plain_spares object state.rows batch.rows plain)
+    → ((other : ℕ) → (other ≡ object → ⊥) → AllLeave state.rows other batch.rows)
+    → Each (λ row. kind_of row.item ≡ kind.Charge → ⊥) batch.rows → Waits state object intent → MayBeEntered state batch
+plain_enters state batch object row intent sound underway latest is untouched none leave no_charge waits =
+    enters state batch object sound underway
+    (λ charge. sums_stay charge state.rows batch.rows (untouched charge) (sound.charges charge)) none leave
     (held_known object (state.rows ++ batch.rows) row intent latest is
-    (λ here. hold_stays state batch.rows object intent sound.order continues.follow (plain_charges object batch.rows plain) (waits here)))
+    (λ here. hold_stays state batch.rows object intent sound.order underway.continues.follow no_charge (waits here)))
 
 -- a version of a payment intent
 abbrev pub version_row : ViewState → ℕ → ℕ → ℕ → Intent → Row
 version_row state entry account object intent = next_row (batch_after state entry) object account (item.Intent intent)
 
-version_plain : (state : ViewState) (entry account object : ℕ) (intent : Intent)
-    → IsPlain object (version_row state entry account object intent)
-version_plain state entry account object intent = record { intent = λ is. refl; charge = λ is. absurd (cc) }
-
 -- by itself
 pub version_enters : (state : ViewState) (entry account object : ℕ) (intent : Intent) → IsReady state
-    → Continues state (with_version account object intent (batch_after state entry)) → Waits state object intent
+    → IsUnderway state (with_version account object intent (batch_after state entry)) → Waits state object intent
     → MayBeEntered state (with_version account object intent (batch_after state entry))
-version_enters state entry account object intent ready continues waits =
+version_enters state entry account object intent ready underway waits =
     plain_enters state (with_version account object intent (batch_after state entry)) object
-    (version_row state entry account object intent) intent ready.sound continues
+    (version_row state entry account object intent) intent ready.sound underway
     (last_version state.rows (batch_after state entry) object account (item.Intent intent)) refl (λ charge. refl) refl
-    (version_plain state entry account object intent, tt) waits
+    (λ other differs. (λ same. differs (sym same), tt)) (λ is. absurd (cc), tt) waits
 
 -- and an event that tells of it
 pub told_enters : (state : ViewState) (entry account object : ℕ) (intent : Intent) (sort : EventKind) → IsReady state
-    → Continues state (with_version account object intent (batch_after state entry)) → kind.Intent ≡ subject_of sort
+    → IsUnderway state (with_version account object intent (batch_after state entry)) → kind.Intent ≡ subject_of sort
     → Waits state object intent → AddsSound state (adds_told account object intent sort (batch_after state entry))
-told_enters state entry account object intent sort ready continues subject waits =
+told_enters state entry account object intent sort ready underway subject waits =
     plain_enters state (with_told account object intent sort (batch_after state entry)) object
     (version_row state entry account object intent) intent ready.sound
-    (continues_told state (batch_after state entry) object account (item.Intent intent) sort continues subject)
+    (underway_told state (batch_after state entry) object account (item.Intent intent) sort underway subject)
     (last_version state.rows (batch_after state entry) object account (item.Intent intent)) refl (λ charge. refl) refl
-    (version_plain state entry account object intent, tt) waits
+    (λ other differs. (λ same. differs (sym same), tt)) (λ is. absurd (cc), tt) waits
 
 -- a version of a payment intent in the batch of an entry, of which this was announced
 abbrev with_told_version : ViewState → ℕ → ℕ → ℕ → Intent → List Announced → BatchState
@@ -140,16 +128,17 @@ with_told_version state entry account object intent announced =
 
 -- and an attempt behind it
 attempt_enters : (state : ViewState) (entry account object : ℕ) (intent : Intent) (how : Method) (announced : List Announced)
-    → IsReady state → Continues state (with_told_version state entry account object intent announced)
+    → IsReady state → IsUnderway state (with_told_version state entry account object intent announced)
     → object ≤ length state.rows + 1 → Waits state object intent
     → MayBeEntered state (with_attempt account object intent how (with_told_version state entry account object intent announced))
-attempt_enters state entry account object intent how announced ready continues early waits =
+attempt_enters state entry account object intent how announced ready underway early waits =
     plain_enters state (with_attempt account object intent how before) object
     (version_row state entry account object intent) intent ready.sound
-    (continues_new state before account begun ready.sound.order continues (let room = ready.room in omega arith) refl tt (λ event is. absurd (cc)))
+    (underway_first state before account begun ready.sound.order underway (let room = ready.room in omega arith)
+    (record { texts = refl; origins = tt; silent = λ event is. absurd (cc) }))
     (other_version state.rows before object (last_place before + 1) account begun (λ same. omega arith)
     ∙ last_version state.rows (batch_after state entry) object account (item.Intent intent)) refl (λ charge. refl) refl
-    (version_plain state entry account object intent, (record { intent = λ is. absurd (cc); charge = λ is. absurd (cc) }, tt)) waits
+    (λ other differs. (λ same. differs (sym same), (tt, tt))) (λ is. absurd (cc), (λ is. absurd (cc), tt)) waits
   where
     before : BatchState
     before = with_told_version state entry account object intent announced
@@ -159,18 +148,18 @@ attempt_enters state entry account object intent how announced ready continues e
 
 -- a further version of a payment intent, and an attempt
 pub attempted_enters : (state : ViewState) (entry account object : ℕ) (intent : Intent) (how : Method) → IsReady state
-    → Continues state (with_version account object intent (batch_after state entry)) → object ≤ length state.rows
+    → IsUnderway state (with_version account object intent (batch_after state entry)) → object ≤ length state.rows
     → Waits state object intent → AddsSound state (attempted account object intent how (batch_after state entry))
-attempted_enters state entry account object intent how ready continues early waits =
-    attempt_enters state entry account object intent how [] ready continues (omega arith) waits
+attempted_enters state entry account object intent how ready underway early waits =
+    attempt_enters state entry account object intent how [] ready underway (omega arith) waits
 
 -- the first version of a payment intent
-pub created_continues : (state : ViewState) (entry account : ℕ) (intent : Intent) → IsReady state
+pub created_underway : (state : ViewState) (entry account : ℕ) (intent : Intent) → IsReady state
     → AreUtf8 (texts_of (item.Intent intent))
-    → Continues state (with_version account (last_place (batch_after state entry) + 1) intent (batch_after state entry))
-created_continues state entry account intent ready texts =
-    continues_new state (batch_after state entry) account (item.Intent intent) ready.sound.order (begins state entry)
-    (let room = ready.room in omega arith) texts tt (λ event is. absurd (cc))
+    → IsUnderway state (with_version account (last_place (batch_after state entry) + 1) intent (batch_after state entry))
+created_underway state entry account intent ready texts =
+    underway_first state (batch_after state entry) account (item.Intent intent) ready.sound.order (begins state entry)
+    (let room = ready.room in omega arith) (record { texts = texts; origins = tt; silent = λ event is. absurd (cc) })
 
 -- a new payment intent, its attempt, and the event that tells of it
 pub created_enters : (state : ViewState) (entry account : ℕ) (intent : Intent) (how : Method) → IsReady state
@@ -180,6 +169,6 @@ created_enters state entry account intent how ready texts waits =
     let batch = batch_after state entry in
     let object = last_place batch + 1 in
     attempt_enters state entry account object intent how (record { sort = event.IntentCreated; object = object } ∷ []) ready
-    (continues_told state batch object account (item.Intent intent) event.IntentCreated
-    (created_continues state entry account intent ready texts) refl)
+    (underway_told state batch object account (item.Intent intent) event.IntentCreated
+    (created_underway state entry account intent ready texts) refl)
     (omega arith) waits

@@ -20,9 +20,10 @@ use Rattle.ph_rows.specs.Sound.{Holds, IsHeldBy, IsSound, charge_of}
 use Rattle.ph_rows.specs.Views.{ViewState}
 use Rattle.ph_rows.specs.Weights.{texts_of}
 use Rattle.ph_rows.specs.Words.{subject_of}
-use Rattle.ph_rows.proofs.BatchLemmas.{Continues, continues_version}
+use Rattle.ph_rows.proofs.BatchLemmas.{IsFurtherOf, MayStand}
 use Rattle.ph_rows.proofs.FoundLemmas.{owned_found}
 use Rattle.ph_rows.proofs.SoundLemmas.{row_at_within}
+use Rattle.ph_rows.proofs.UnderwayLemmas.{IsUnderway, underway_further}
 use Rattle.ph_intents.specs.Attempts.{attempted}
 use Rattle.ph_intents.specs.Keeps.{AddsSound, AreUtf8, IsReady, batch_after}
 use Rattle.ph_intents.specs.Refusals.{made_of, made_of_row, made_at, if_allowed}
@@ -104,14 +105,15 @@ found_waits state account row old new sound found passes here =
     (passes_on row.object old new (option_and_then (charge_of state.rows) old.latest_charge) passes.amount
     (sound.held row.object row old found.latest found.is (passes.waits here)))
 
--- a batch continues with a further version of a payment intent that is found
-pub found_continues : (state : ViewState) (entry account : ℕ) (row : Row) (old new : Intent) → IsReady state
+-- a batch is under way with a further version of a payment intent that is found
+pub found_underway : (state : ViewState) (entry account : ℕ) (row : Row) (old new : Intent) → IsReady state
     → IsFound state account row old → AreUtf8 (texts_of (item.Intent new))
-    → Continues state (with_version account row.object new (batch_after state entry))
-found_continues state entry account row old new ready found texts =
-    subst (λ (owner : ℕ). Continues state (with_version owner row.object new (batch_after state entry))) found.owner
-    (continues_version state (batch_after state entry) row (item.Intent new) ready.sound.order (begins state entry) found.stands
-    (let room = ready.room in omega arith) texts (ap kind_of (sym found.is)) refl)
+    → IsUnderway state (with_version account row.object new (batch_after state entry))
+found_underway state entry account row old new ready found texts =
+    subst (λ (owner : ℕ). IsUnderway state (with_version owner row.object new (batch_after state entry))) found.owner
+    (underway_further state (batch_after state entry) row (item.Intent new) ready.sound.order (begins state entry) found.stands
+    (let room = ready.room in omega arith) (record { texts = texts; origins = tt; silent = λ event is. absurd (cc) })
+    (record { kind = ap kind_of (sym found.is); changes = refl }))
 
 -- it may be entered with an event that tells of it
 pub found_told : (state : ViewState) (entry account : ℕ) (row : Row) (old new : Intent) (sort : EventKind) → IsReady state
@@ -119,7 +121,7 @@ pub found_told : (state : ViewState) (entry account : ℕ) (row : Row) (old new 
     → AddsSound state (adds_told account row.object new sort (batch_after state entry))
 found_told state entry account row old new sort ready found subject texts passes =
     told_enters state entry account row.object new sort ready
-    (found_continues state entry account row old new ready found texts) subject
+    (found_underway state entry account row old new ready found texts) subject
     (found_waits state account row old new ready.sound found passes)
 
 -- and with an attempt
@@ -128,6 +130,6 @@ pub found_attempted : (state : ViewState) (entry account : ℕ) (row : Row) (old
     → AddsSound state (attempted account row.object new how (batch_after state entry))
 found_attempted state entry account row old new how ready found texts passes =
     attempted_enters state entry account row.object new how ready
-    (found_continues state entry account row old new ready found texts)
+    (found_underway state entry account row old new ready found texts)
     (found_within state account row old ready.sound found)
     (found_waits state account row old new ready.sound found passes)

@@ -1,4 +1,4 @@
--- Payment intents that wait for their capture stay held with rows of one payment intent.
+-- Charges stay as they are, and hold what they held, with rows of which none is a version of a charge.
 use Rattle.std.specs.Prelude.{◌==◌, ◌||◌, option_and_then}
 use Rattle.std.proofs.Common.{◌≡◌, ℕ, Bool, true, false, eqb, List, [], ◌∷◌, ◌++◌, Option, None, Some, refl, sym, ap, ◌∙◌, subst}
 use Rattle.std.specs.List.{list_any}
@@ -94,54 +94,6 @@ charge_row rows number charge e = at (latest_of number rows) refl e
     at None l e = absurd (cc)
     at (Some row) l e = in_item row l row.item refl e
 
--- a row leaves alone what is held of every payment intent but one: it is no version of another, nor of a charge of another
-pub record Spares (object : ℕ) (rows : List Row) (row : Row) : Type 0 where
-  pub intent : kind_of row.item ≡ kind.Intent → row.object ≡ object
-  pub charge : kind_of row.item ≡ kind.Charge → (charge : Charge) → charge_of rows row.object ≡ Some charge → charge.intent ≡ object
-
--- the view with rows behind its own
-abbrev with_rows : ViewState → List Row → ViewState
-with_rows state more = record state { rows = state.rows ++ more }
-
--- payment intents that wait for their capture stay held, where the rows leave them alone but for one that is held
-pub held_others : (state : ViewState) (more : List Row) (object : ℕ) → IsInOrder state → AllMayFollow state more → AreHeld state.rows
-    → Each (Spares object state.rows) more → IsHeldAt object (state.rows ++ more) → AreHeld (state.rows ++ more)
-held_others state more object order follow held spares mine other = at (eqb other object) refl
-  where
-    all : List Row
-    all = state.rows ++ more
-
-    apart : (row : Row) → kind_of row.item ≡ kind.Intent → HasBegun (row_at row.object all) row → (row.object ≡ object → ⊥)
-        → Each (λ new. new.object ≡ row.object → ⊥) more
-    apart row is begun differs =
-        each_both (λ new. HasBegun (row_at new.object all) new) (Spares object state.rows) (λ new. new.object ≡ row.object → ⊥)
-        (λ new h spared same. differs (sym same ∙ spared.intent (one_kind all new row h begun same ∙ is)))
-        more (each_begun state more follow) spares
-
-    charges_apart : (number : ℕ) (charge : Charge) → charge_of state.rows number ≡ Some charge → (charge.intent ≡ object → ⊥)
-        → Each (λ new. new.object ≡ number → ⊥) more
-    charges_apart number charge found differs =
-        let last = charge_row state.rows number charge found in
-        let begun = latest_begun state number last.row order last.latest in
-        let still = begun_before state.rows more last.row begun.0 in
-        each_both (λ new. HasBegun (row_at new.object all) new) (Spares object state.rows) (λ new. new.object ≡ number → ⊥)
-        (λ new h spared same. differs (spared.charge
-        (one_kind all new last.row h still (same ∙ sym begun.1) ∙ ap kind_of last.is) charge
-        (ap (charge_of state.rows) same ∙ found)))
-        more (each_begun state more follow) spares
-
-    at : (b : Bool) → eqb other object ≡ b → IsHeldAt other all
-    at true e row intent latest is waits =
-        subst (λ (k : ℕ). IsHeldAt k all) (sym (eqb-true other object e)) mine row intent latest is waits
-    at false e row intent latest is waits =
-        let begun = latest_begun (with_rows state more) other row (order_with_all state more order follow) latest in
-        let differs : other ≡ object → ⊥ = eqb-false other object e in
-        let none = none_version row.object more (apart row (ap kind_of is) begun.0 (λ same. differs (sym begun.1 ∙ same))) in
-        held_stays other state.rows more (subst (λ (o : ℕ). list_any (is_version o) more ≡ false) begun.1 none)
-        (λ number charge found of_other. none_version number more
-        (charges_apart number charge found (λ same. differs (sym of_other ∙ same))))
-        (held other) row intent latest is waits
-
 -- the present version of a charge stays with rows of which none is a version of a charge
 pub charge_stays : (state : ViewState) (more : List Row) (number : ℕ) (charge : Charge) → IsInOrder state → AllMayFollow state more
     → Each (λ row. kind_of row.item ≡ kind.Charge → ⊥) more → charge_of state.rows number ≡ Some charge
@@ -173,13 +125,3 @@ hold_stays state more object intent order follow none = by intent.latest_charge
         → IsHeldBy object intent (option_and_then (charge_of (state.rows ++ more)) latest)
     by None h = absurd h
     by (Some number) h = of_charge number (charge_of state.rows number) refl h
-
--- the present version of a payment intent is known, and is held where it waits for its capture
-pub held_known : (object : ℕ) (rows : List Row) (row : Row) (intent : Intent) → latest_of object rows ≡ Some row
-    → row.item ≡ item.Intent intent
-    → (intent.status ≡ status.RequiresCapture → IsHeldBy object intent (option_and_then (charge_of rows) intent.latest_charge))
-    → IsHeldAt object rows
-held_known object rows row intent latest is held other second e same =
-    let row_is : row ≡ other = (let both : Some row ≡ Some other = sym latest ∙ e in cc) in
-    let intent_is : intent ≡ second = (let both : item.Intent intent ≡ item.Intent second = sym is ∙ ap (λ (r : Row). r.item) row_is ∙ same in cc) in
-    subst (λ (v : Intent). v.status ≡ status.RequiresCapture → IsHeldBy object v (option_and_then (charge_of rows) v.latest_charge)) intent_is held

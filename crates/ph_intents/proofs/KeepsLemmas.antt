@@ -18,7 +18,7 @@ use Rattle.ph_rows.specs.declared.intents.PaymentError.TheVariants as payment_er
 use Rattle.ph_rows.specs.declared.items.Item.TheVariants as item
 use Rattle.ph_rows.specs.declared.payment_methods.PaymentMethod.{PaymentMethod}
 use Rattle.ph_rows.specs.Batches.{last_place}
-use Rattle.ph_rows.proofs.BatchLemmas.{Continues}
+use Rattle.ph_rows.proofs.UnderwayLemmas.{IsUnderway}
 use Rattle.ph_rows.specs.Weights.{with_text, method_text, metadata_texts, texts_of}
 use Rattle.ph_intents.specs.Attempts.{attempted}
 use Rattle.ph_intents.specs.Authenticate.{authenticate_of, authenticate_outcome, authenticated_intent, fail_of, fail_authentication_outcome, failed_intent}
@@ -32,8 +32,8 @@ use Rattle.ph_intents.specs.Statuses.{next_status}
 use Rattle.ph_intents.specs.Update.{most_keys, step_of, update_with, update_of, updated_intent, update_outcome}
 use Rattle.ph_intents.specs.Versions.{with_version, adds_told}
 use Rattle.ph_intents.specs.declared.statuses.Step.TheVariants as step
-use Rattle.ph_intents.proofs.EnterLemmas.{Waits, created_continues, created_enters, told_enters, version_enters}
-use Rattle.ph_intents.proofs.FoundLemmas.{IsFound, keeps_at, keeps_allowed, found_attempted, found_continues, found_texts, found_told, found_waits}
+use Rattle.ph_intents.proofs.EnterLemmas.{Waits, created_underway, created_enters, told_enters, version_enters}
+use Rattle.ph_intents.proofs.FoundLemmas.{IsFound, keeps_at, keeps_allowed, found_attempted, found_underway, found_texts, found_told, found_waits}
 use Rattle.ph_intents.proofs.StatusLemmas.{waited_before}
 use Rattle.ph_intents.proofs.TextLemmas.{front_text, with_front, either_text, either_method, first_kept, merged_kept}
 
@@ -68,7 +68,7 @@ create_keeps state entry account call ready texts =
     let intent = new_intent call (first_status call.payment_method) in
     let kept = new_texts call (first_status call.payment_method) texts in
     told_enters state entry account (last_place (batch_after state entry) + 1) intent event.IntentCreated ready
-    (created_continues state entry account intent ready kept) refl
+    (created_underway state entry account intent ready kept) refl
     (λ waits. absurd (never_waits call.payment_method waits))
 
 pub create_confirmed_keeps : KeepsSound create_texts create_confirmed_outcome
@@ -190,17 +190,17 @@ update_keeps state entry account call ready texts =
     keeps_allowed state (λ status. update_with account batch row.object (updated status))
     (next_status intent.status (step_of call))
     (λ status to. with_updated row.object (updated status)
-    (found_continues state entry account row intent (updated status) ready found (updated_texts call intent status texts kept))
+    (found_underway state entry account row intent (updated status) ready found (updated_texts call intent status texts kept))
     (found_waits state account row intent (updated status) ready.sound found
     (record { charge = refl; amount = omega arith; waits = waited_before intent.status (step_of call) status to }))))
   where
-    with_updated : (object : ℕ) (intent : Intent) → Continues state (with_version account object intent (batch_after state entry))
+    with_updated : (object : ℕ) (intent : Intent) → IsUnderway state (with_version account object intent (batch_after state entry))
         → Waits state object intent → AddsSound state (update_with account (batch_after state entry) object intent)
-    with_updated object intent continues waits =
+    with_updated object intent underway waits =
         let keys = nat_lt most_keys (length intent.metadata) in
         let adds = Adds object (with_version account object intent (batch_after state entry)) in
         let many = invalid_value (codes "metadata") in
         cond_both (nat_lt intent.amount (terms_of intent.currency).minimum) (Refuses (error_of AmountTooSmall))
         (cond keys many adds) (AddsSound state) (λ small. tt)
         (λ enough. cond_both keys many adds (AddsSound state) (λ above. tt)
-        (λ within. version_enters state entry account object intent ready continues waits))
+        (λ within. version_enters state entry account object intent ready underway waits))

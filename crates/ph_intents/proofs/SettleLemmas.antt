@@ -8,7 +8,7 @@ use Rattle.ph_base.specs.declared.acquirer.Ruling.TheVariants as ruling
 use Rattle.ph_base.specs.declared.ids.Kind.TheVariants as kind
 use Rattle.ph_charges.specs.Approvals.{approval_of, charge_number, decline_of, with_approved}
 use Rattle.ph_charges.specs.Charges.{new_charge, with_captured}
-use Rattle.ph_charges.proofs.EntryLemmas.{approval_continues, decline_continues}
+use Rattle.ph_charges.proofs.EntryLemmas.{approval_underway, decline_underway}
 use Rattle.ph_charges.proofs.SumLemmas.{approval_keeps, decline_keeps}
 use Rattle.ph_rows.specs.declared.rows.Row.{Row}
 use Rattle.ph_rows.specs.declared.attempts.Attempt.{Attempt}
@@ -32,15 +32,16 @@ use Rattle.ph_rows.specs.Sound.{AreHeld, HaveMoves, HaveSums, IsHeldBy, IsInOrde
 use Rattle.ph_rows.specs.Views.{ViewState}
 use Rattle.ph_rows.specs.Weights.{texts_of}
 use Rattle.ph_rows.specs.Words.{subject_of}
-use Rattle.ph_rows.proofs.BatchLemmas.{Continues, continues_told, continues_version}
+use Rattle.ph_rows.proofs.BatchLemmas.{IsFurtherOf, MayStand}
 use Rattle.ph_rows.proofs.ChargeLemmas.{neither_part, sums_stay, touches}
+use Rattle.ph_rows.proofs.HeldLemmas.{AllLeave, IsApart, Leaves, held_known, later_is_loose}
 use Rattle.ph_rows.proofs.MoveLemmas.{is_of_dispute}
-use Rattle.ph_rows.proofs.SoundLemmas.{latest_of_order, latest_of_sound, row_at_within}
+use Rattle.ph_rows.proofs.SoundLemmas.{latest_of_sound, row_at_within}
+use Rattle.ph_rows.proofs.UnderwayLemmas.{IsUnderway, underway_further, underway_told}
 use Rattle.ph_intents.specs.Keeps.{AddsSound, AreUtf8, IsReady, SettleKeepsSound, batch_after}
 use Rattle.ph_intents.specs.Settle.{settled_attempt, approved_intent, approved_event, charge_after, ruled_intent, settled_intent, settled_event, settle_both, settle_intent, settle_attempt, settle_row, with_charge, with_latest_charge, with_ruling, with_settled}
 use Rattle.ph_intents.specs.Versions.{with_told}
 use Rattle.ph_intents.proofs.EnterLemmas.{begins, enters, last_version, other_version}
-use Rattle.ph_intents.proofs.HoldLemmas.{Each, HasCharge, Spares, charge_row, held_known}
 use Rattle.ph_intents.proofs.KeepsLemmas.{failed_texts}
 
 -- a row that stands is this version of an attempt
@@ -55,41 +56,18 @@ record IsIntent (state : ViewState) (row : Row) (intent : Intent) : Type 0 where
 
 -- ---- the rows that a ruling adds in front of the payment intent's version
 
--- each row of two lists
-each_push : (P : Row → Type 0) (rows : List Row) (last : Row) → Each P rows → P last → Each P (rows ++ last ∷ [])
-each_push P [] last each p = (p, tt)
-each_push P (row ∷ rows) last each p = (each.0, each_push P rows last each.1 p)
-
--- they continue the view, are few, are nothing of disputes, and leave other payment intents alone
+-- a batch is under way with them, they are few, have nothing of disputes, and leave what is held for other payment intents
 record IsRuled (state : ViewState) (object : ℕ) (batch : BatchState) : Type 0 where
-  pub continues : Continues state batch
+  pub underway : IsUnderway state batch
   pub few : length batch.rows ≤ 3
   pub disputes : list_any is_of_dispute batch.rows ≡ false
-  pub spares : Each (Spares object state.rows) batch.rows
+  pub leave : (other : ℕ) → (other ≡ object → ⊥) → AllLeave state.rows other batch.rows
 
--- a row of no payment intent and no charge spares all
-spares_all : (object : ℕ) (rows : List Row) (row : Row) → (kind_of row.item ≡ kind.Intent → ⊥) → (kind_of row.item ≡ kind.Charge → ⊥)
-    → Spares object rows row
-spares_all object rows row no_intent no_charge =
-    record { intent = λ k. absurd (no_intent k); charge = λ k charge e. absurd (no_charge k) }
-
--- the row of a number behind all others is one of a new charge
-no_charge_yet : (state : ViewState) (number : ℕ) (charge : Charge) → IsInOrder state → length state.rows < number
-    → charge_of state.rows number ≡ Some charge → ⊥
-no_charge_yet state number charge order later e =
-    let last = charge_row state.rows number charge e in
-    let found = latest_of_order state number last.row order last.latest in
-    let object : last.row.object ≡ number = found.1 in
-    let first : last.row.object ≤ last.row.place = order.first last.row.place last.row found.0 in
-    let within : last.row.place ≤ length state.rows = (row_at_within last.row.place state.rows last.row found.0).1 in
-    omega arith
-
-spares_new : (state : ViewState) (object : ℕ) (row : Row) → IsInOrder state → kind_of row.item ≡ kind.Charge
-    → length state.rows < row.object → Spares object state.rows row
-spares_new state object row order is later = record {
-  intent = λ k. absurd (let clash : kind.Charge ≡ kind.Intent = sym is ∙ k in cc);
-  charge = λ k charge e. absurd (no_charge_yet state row.object charge order later e);
-}
+-- rows that leave what is held, and one more
+leave_push : (rows : List Row) (object : ℕ) (more : List Row) (last : Row) → AllLeave rows object more
+    → Leaves rows object last.object last.item → AllLeave rows object (more ++ last ∷ [])
+leave_push rows object [] last leave h = (h, tt)
+leave_push rows object (row ∷ more) last leave h = (leave.0, leave_push rows object more last leave.1 h)
 
 -- ---- and with it
 
@@ -104,11 +82,12 @@ ruled_enters state row old new sort batch ready there ruled texts subject kept h
     let room = ready.room in
     let few : length batch.rows ≤ 3 = ruled.few in
     enters state (with_told row.account row.object new sort batch) row.object ready.sound
-    (continues_told state batch row.object row.account (item.Intent new) sort
-    (continues_version state batch row (item.Intent new) ready.sound.order ruled.continues there.stands (omega arith) texts
-    (ap kind_of (sym there.is)) refl) subject)
+    (underway_told state batch row.object row.account (item.Intent new) sort
+    (underway_further state batch row (item.Intent new) ready.sound.order ruled.underway there.stands (omega arith)
+    (record { texts = texts; origins = tt; silent = λ event is. absurd (cc) })
+    (record { kind = ap kind_of (sym there.is); changes = refl })) subject)
     kept (neither_part is_of_dispute batch.rows (version ∷ []) ruled.disputes refl)
-    (each_push (Spares row.object state.rows) batch.rows version ruled.spares (record { intent = λ k. refl; charge = λ k charge e. absurd (cc) }))
+    (λ other differs. leave_push state.rows other batch.rows version (ruled.leave other differs) (λ same. differs (sym same)))
     (held_known row.object (state.rows ++ (batch.rows ++ version ∷ [])) version new
     (last_version state.rows batch row.object row.account (item.Intent new)) refl held)
 
@@ -116,11 +95,13 @@ ruled_enters state row old new sort batch ready there ruled texts subject kept h
 settled_ruled : (state : ViewState) (entry : ℕ) (how : Ruling) (row : Row) (attempt : Attempt) (object : ℕ) → IsReady state
     → IsAttempt state row attempt → IsRuled state object (with_settled how row attempt (batch_after state entry))
 settled_ruled state entry how row attempt object ready stood = record {
-  continues = continues_version state (batch_after state entry) row (item.Attempt (settled_attempt how attempt)) ready.sound.order
-      (begins state entry) stood.stands (let room = ready.room in omega arith) refl (ap kind_of (sym stood.is)) refl;
+  underway = underway_further state (batch_after state entry) row (item.Attempt (settled_attempt how attempt)) ready.sound.order
+      (begins state entry) stood.stands (let room = ready.room in omega arith)
+      (record { texts = refl; origins = tt; silent = λ event is. absurd (cc) })
+      (record { kind = ap kind_of (sym stood.is); changes = refl });
   few = omega arith;
   disputes = refl;
-  spares = (spares_all object state.rows _ (λ k. absurd (cc)) (λ k. absurd (cc)), tt);
+  leave = λ other differs. (tt, tt);
 }
 
 -- what a ruling makes of an attempt and its payment intent
@@ -172,30 +153,31 @@ settled_enters state entry how row intent_row attempt intent ready stood there =
     held : BatchState
     held = with_announced (with_row (before ruling.Approved) number account (item.Charge charge)) event.ChargeSucceeded number
 
-    first_spares : (how : Ruling) → Spares object state.rows (next_row (batch_after state entry) row.object row.account (item.Attempt (settled_attempt how attempt)))
-    first_spares how = (begun how).spares.0
+    -- the new charge holds no other payment intent
+    loose : (other : ℕ) → IsApart state.rows other number
+    loose other = later_is_loose state number ready.sound.order ready.sound.held later other
 
     -- captured at once
-    whole : (new : Intent) → status.Succeeded ≡ new.status → AreUtf8 (texts_of (item.Intent new)) → Continues state captured
+    whole : (new : Intent) → status.Succeeded ≡ new.status → AreUtf8 (texts_of (item.Intent new)) → IsUnderway state captured
         → ((behind : List Row) → ((charge : ℕ) → list_any (touches charge) behind ≡ false) → HaveSums (state.rows ++ (captured.rows ++ behind)))
         → MayBeEntered state (with_told account object new event.IntentSucceeded captured)
-    whole new succeeded new_texts continues sums =
+    whole new succeeded new_texts underway sums =
         ruled_enters state intent_row intent new event.IntentSucceeded captured ready there
         (record {
-          continues = continues;
+          underway = underway;
           few = omega arith;
           disputes = refl;
-          spares = (first_spares ruling.Approved, (spares_new state object _ ready.sound.order refl later, (spares_all object state.rows _ (λ k. absurd (cc)) (λ k. absurd (cc)), tt)));
+          leave = λ other differs. (tt, (loose other, (tt, tt)));
         }) new_texts refl (sums (version new captured ∷ []) (λ other. refl))
         (λ here. absurd (let clash : status.Succeeded ≡ status.RequiresCapture = succeeded ∙ here in cc))
 
     approved_is : CaptureMethod → BatchState
     approved_is capture = with_announced (with_approved capture account number charge (before ruling.Approved)) event.ChargeSucceeded number
 
-    continues_by : (capture : CaptureMethod) → intent.capture_method ≡ capture → Continues state (approved_is capture)
-    continues_by capture e =
-        subst (λ (c : CaptureMethod). Continues state (approved_is c)) e
-        (approval_continues state (before ruling.Approved) account object intent ready.sound.order (begun ruling.Approved).continues (omega arith) texts)
+    underway_by : (capture : CaptureMethod) → intent.capture_method ≡ capture → IsUnderway state (approved_is capture)
+    underway_by capture e =
+        subst (λ (c : CaptureMethod). IsUnderway state (approved_is c)) e
+        (approval_underway state (before ruling.Approved) account object intent ready.sound.order (begun ruling.Approved).underway (omega arith) texts)
 
     sums_by : (capture : CaptureMethod) → intent.capture_method ≡ capture → (behind : List Row)
         → ((charge : ℕ) → list_any (touches charge) behind ≡ false) → HaveSums (state.rows ++ ((approved_is capture).rows ++ behind))
@@ -207,10 +189,10 @@ settled_enters state entry how row intent_row attempt intent ready stood there =
         → MayBeEntered state (with_told account object (with_latest_charge (Some number) (approved_intent capture intent)) (approved_event capture) (approved_is capture))
     approved capture_method.Automatic e =
         whole (with_latest_charge (Some number) (approved_intent capture_method.Automatic intent)) refl texts
-        (continues_by capture_method.Automatic e) (sums_by capture_method.Automatic e)
+        (underway_by capture_method.Automatic e) (sums_by capture_method.Automatic e)
     approved capture_method.AutomaticAsync e =
         whole (with_latest_charge (Some number) (approved_intent capture_method.AutomaticAsync intent)) refl texts
-        (continues_by capture_method.AutomaticAsync e) (sums_by capture_method.AutomaticAsync e)
+        (underway_by capture_method.AutomaticAsync e) (sums_by capture_method.AutomaticAsync e)
     approved capture_method.Manual e =
         let new = with_latest_charge (Some number) (approved_intent capture_method.Manual intent) in
         let known = ap (option_and_then (λ (r : Row). charge_in r.item))
@@ -218,10 +200,10 @@ settled_enters state entry how row intent_row attempt intent ready stood there =
             ∙ last_version state.rows (before ruling.Approved) number account (item.Charge charge)) in
         ruled_enters state intent_row intent new event.IntentAmountCapturableUpdated held ready there
         (record {
-          continues = continues_by capture_method.Manual e;
+          underway = underway_by capture_method.Manual e;
           few = omega arith;
           disputes = refl;
-          spares = (first_spares ruling.Approved, (spares_new state object _ ready.sound.order refl later, tt));
+          leave = λ other differs. (tt, (loose other, tt));
         }) texts refl (sums_by capture_method.Manual e (version new held ∷ []) (λ other. refl))
         (λ here. subst (IsHeldBy object new) (sym known) (record { intent = refl; amount = omega arith; nothing = refl }))
 
@@ -233,11 +215,11 @@ settled_enters state entry how row intent_row attempt intent ready stood there =
         let new = settled_intent (ruling.Declined decline) (Some number) intent in
         ruled_enters state intent_row intent new event.IntentPaymentFailed batch ready there
         (record {
-          continues = decline_continues state (before (ruling.Declined decline)) account object intent ready.sound.order
-              (begun (ruling.Declined decline)).continues (omega arith) texts;
+          underway = decline_underway state (before (ruling.Declined decline)) account object intent ready.sound.order
+              (begun (ruling.Declined decline)).underway (omega arith) texts;
           few = omega arith;
           disputes = refl;
-          spares = (first_spares (ruling.Declined decline), (spares_new state object _ ready.sound.order refl later, tt));
+          leave = λ other differs. (tt, (loose other, tt));
         }) (failed_texts intent (payment_error.Declined decline) status.RequiresPaymentMethod texts) refl
         (decline_keeps state account object intent (before (ruling.Declined decline)) (version new batch ∷ []) ready.sound refl (λ other. refl) (λ other. refl))
         (λ here. absurd (cc))

@@ -1,6 +1,6 @@
 -- The amounts of all charges, with rows of a refund or a dispute.
 use Rattle.std.specs.Prelude.{◌&&◌}
-use Rattle.std.proofs.Common.{◌≡◌, ℕ, ◌+◌, ◌≤◌, Bool, true, false, eqb, List, [], ◌∷◌, ◌++◌, Option, None, Some, sym, refl, ap, ◌∙◌, subst, arith, ℤ, pos, ◌+ℤ◌}
+use Rattle.std.proofs.Common.{◌≡◌, ℕ, ◌+◌, ◌≤◌, Bool, true, false, eqb, List, [], ◌∷◌, ◌++◌, None, Some, sym, refl, ap, ◌∙◌, arith, pos, ◌+ℤ◌}
 use Rattle.std.specs.List.{list_any}
 use Rattle.std.proofs.lemmas.Bool.{cond-true, eq-eqb, false≢true, ne_eqb}
 use Rattle.std.proofs.lemmas.Int.{ints}
@@ -13,7 +13,7 @@ use Rattle.ph_rows.specs.declared.items.Item.TheVariants as item
 use Rattle.ph_rows.specs.declared.refunds.Refund.{Refund}
 use Rattle.ph_rows.specs.Items.{txn_in, refund_in}
 use Rattle.ph_rows.specs.Rows.{later_version, latest_of}
-use Rattle.ph_rows.specs.Sound.{HasSums, HasSumsAt, HaveSums}
+use Rattle.ph_rows.specs.Sound.{HasSums, HaveSums}
 use Rattle.ph_rows.specs.Transactions.{is_charge_type, source_number, captured_by, captured_of, refunded_by, refunded_of}
 use Rattle.ph_rows.proofs.ChargeLemmas.{both_fail, first_fails, second_fails, captured_of-append, captured_of-apart, refunded_of-append, refunded_of-apart, neither_part, sums_known, sums_of_others, sums_stay, touches, touches_item}
 

@@ -1,6 +1,6 @@
 -- Payment intents that wait for their capture, as rows are added.
-use Rattle.std.specs.Prelude.{slice_get, ◌==◌, ◌||◌, option_and_then}
-use Rattle.std.proofs.Common.{◌≡◌, ℕ, zero, suc, ◌<◌, inl, inr, Bool, true, false, cond, eqb, List, [], ◌∷◌, ◌++◌, Option, None, Some, length, sym, refl, ap, ◌∙◌, subst}
+use Rattle.std.specs.Prelude.{slice_get, ◌==◌, option_and_then}
+use Rattle.std.proofs.Common.{◌≡◌, ℕ, zero, suc, ◌<◌, inl, inr, Bool, true, false, eqb, List, [], ◌∷◌, ◌++◌, Option, None, Some, length, sym, refl, ap, ◌∙◌, subst}
 use Rattle.std.specs.List.{fold, list_any}
 use Rattle.std.proofs.lemmas.Bool.{cond-false, eqb-false, eqb-true, ne_eqb}
 use Rattle.ph_base.specs.declared.ids.Kind.TheVariants as kind
@@ -13,7 +13,7 @@ use Rattle.ph_rows.specs.declared.items.Item.TheVariants as item
 use Rattle.ph_rows.specs.Items.{charge_in}
 use Rattle.ph_rows.specs.Kinds.{kind_of}
 use Rattle.ph_rows.specs.Rows.{later_version, latest_of}
-use Rattle.ph_rows.specs.Sound.{AreHeld, Holds, IsHeldBy, IsHeldAt, IsInOrder, charge_of}
+use Rattle.ph_rows.specs.Sound.{AreHeld, IsHeldBy, IsHeldAt, IsInOrder, charge_of}
 use Rattle.ph_rows.specs.Views.{ViewState}
 use Rattle.ph_rows.proofs.ChargeLemmas.{both_fail, first_fails, second_fails}
 use Rattle.ph_rows.proofs.SoundLemmas.{found_among, latest_of-later, latest_of_order, row_at-before, stands_behind, versions_alike}

@@ -10,3 +10,4 @@ mod MetadataLemmas
 pub mod MoveLemmas
 pub mod NameLemmas
 pub mod SoundLemmas
+pub mod UnderwayLemmas

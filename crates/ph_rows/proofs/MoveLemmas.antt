@@ -1,10 +1,9 @@
 -- What disputes have moved, as rows are added.
 use Rattle.std.specs.Prelude.{slice_get, ◌==◌}
-use Rattle.std.proofs.Common.{◌≡◌, ℕ, zero, suc, ◌≤◌, ◌<◌, inl, inr, Bool, true, false, eqb, List, [], ◌∷◌, ◌++◌, Option, None, Some, length, sym, refl, ap, ◌∙◌, subst, arith}
+use Rattle.std.proofs.Common.{◌≡◌, ℕ, zero, suc, ◌≤◌, ◌<◌, inl, inr, Bool, true, false, eqb, List, [], ◌∷◌, ◌++◌, None, Some, length, sym, refl, ap, ◌∙◌, subst, arith}
 use Rattle.std.specs.List.{list_any}
-use Rattle.std.proofs.lemmas.Bool.{cond-false, cond-true, eq-eqb, eqb-true, eqb-false, false≢true, ne_eqb}
+use Rattle.std.proofs.lemmas.Bool.{cond-false, eqb-true, eqb-false, false≢true, ne_eqb}
 use Rattle.std.proofs.lemmas.List.{append-nil, append_assoc}
-use Rattle.std.proofs.lemmas.List.Sums.{fold_push}
 use Rattle.ph_rows.specs.declared.rows.Row.{Row}
 use Rattle.ph_rows.specs.declared.disputes.Dispute.{Dispute}
 use Rattle.ph_rows.specs.declared.items.Item.{Item}
@@ -13,10 +12,11 @@ use Rattle.ph_rows.specs.declared.transactions.TxnSource.{TxnSource}
 use Rattle.ph_rows.specs.declared.transactions.TxnSource.TheVariants as source
 use Rattle.ph_rows.specs.Items.{txn_in}
 use Rattle.ph_rows.specs.Origins.{HasOrigin, origin_of}
-use Rattle.ph_rows.specs.Rows.{later_version, latest_of}
+use Rattle.ph_rows.specs.Rows.{latest_of}
 use Rattle.ph_rows.specs.Sound.{HaveMoves, IsInOrder}
 use Rattle.ph_rows.specs.Transactions.{is_from_dispute, moves_by, moves_of, moves_in, source_kind, source_number}
 use Rattle.ph_rows.specs.Views.{ViewState}
+use Rattle.ph_rows.proofs.AmountLemmas.{latest_of-last}
 use Rattle.ph_rows.proofs.ChargeLemmas.{both_fail, first_fails, second_fails, origin_at, origin_within}
 use Rattle.ph_rows.proofs.HeldLemmas.{is_version, latest_from, latest_of-apart}
 use Rattle.ph_rows.proofs.SoundLemmas.{found_among}
@@ -188,8 +188,7 @@ moves_of_version rows more new dispute moves is last apart moved other = at (eqb
     latest =
         ap (latest_of new.object) (sym (append_assoc rows (new ∷ []) more))
         ∙ latest_of-apart new.object (rows ++ new ∷ []) more last
-        ∙ fold_push (later_version new.object) None rows new
-        ∙ cond-true (eqb new.object new.object) (Some new) (latest_of new.object rows) (eq-eqb new.object new.object refl)
+        ∙ latest_of-last rows new
 
     none : moves_by new.object (txn_in new.item) ≡ []
     none = ap (λ (o : Item). moves_by new.object (txn_in o)) is
