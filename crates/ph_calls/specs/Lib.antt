@@ -2,9 +2,10 @@ pub mod Table
 pub mod Routes
 pub mod Check
 pub mod Intents
-pub mod Keeps
 pub mod Refunds
 pub mod Disputes
 pub mod Clock
 pub mod Reading
 pub mod Outcomes
+pub mod Keeps
+pub mod Fit

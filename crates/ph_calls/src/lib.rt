@@ -7,6 +7,7 @@ mod clock;
 mod disputes;
 mod errors;
 mod intents;
+mod laws;
 mod reading;
 mod refunds;
 mod route;
@@ -20,5 +21,6 @@ pub use call::{
     CreateRefund, GetBalance, GetCharge, GetDispute, GetIntent, GetRefund, GetTxn, SendEvidence,
     SetClock, UpdateIntent,
 };
+pub use laws::readings_are_fit;
 pub use ph_kinds::Authentication;
 pub use reading::read_call;
