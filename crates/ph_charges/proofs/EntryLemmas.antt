@@ -1,5 +1,5 @@
 -- Batches stay under way with an approval, a decline and a capture.
-use Rattle.std.proofs.Common.{◌≡◌, ℕ, ◌+◌, ◌^◌, ◌<◌, true, List, [], ◌∷◌, ◌++◌, Option, None, Some, length, refl, sym, ap, subst, arith}
+use Rattle.std.proofs.Common.{◌≡◌, ℕ, ◌+◌, ◌^◌, ◌<◌, true, List, [], ◌∷◌, ◌++◌, Some, length, refl, sym, ap, subst, arith}
 use Rattle.std.specs.List.{list_all}
 use Rattle.std.specs.Str.{is_utf8}
 use Rattle.std.proofs.lemmas.List.{length-append, append_assoc}
@@ -22,7 +22,7 @@ use Rattle.ph_rows.specs.Sound.{IsInOrder, IsSound, MayFollow}
 use Rattle.ph_rows.specs.Views.{ViewState}
 use Rattle.ph_rows.specs.Weights.{texts_of}
 use Rattle.ph_rows.specs.Words.{subject_of}
-use Rattle.ph_rows.proofs.BatchLemmas.{IsFurtherOf, MayStand, first_may_follow, further_may_follow, with_batch}
+use Rattle.ph_rows.proofs.BatchLemmas.{first_may_follow, further_may_follow, with_batch}
 use Rattle.ph_rows.proofs.FollowLemmas.{has_begun_origin}
 use Rattle.ph_rows.proofs.SoundLemmas.{latest_of_sound}
 use Rattle.ph_rows.proofs.UnderwayLemmas.{IsUnderway, underway_first, underway_told, underway_with}
@@ -44,7 +44,7 @@ captured_underway state batch account object charge amount sort order underway f
     let version = item.Charge (captured_charge amount (next_capture charge batch) charge) in
     let told = with_announced (with_row batch object account version) sort object in
     let longer : length told.rows ≡ length batch.rows + 1 =
-        length-append batch.rows (captured_row account object charge amount batch ∷ []) in
+    length-append batch.rows (captured_row account object charge amount batch ∷ []) in
     underway_first state told account (item.Txn (charge_txn object charge amount batch.at)) order
     (underway_told state batch object account version sort (underway_with state batch object account version order underway follows) subject)
     (omega arith) (record { texts = refl; origins = origin; silent = λ event is. absurd (cc) })

@@ -1,7 +1,7 @@
 -- The amounts of the charges stay sums with what an approval, a decline and a capture add.
-use Rattle.std.proofs.Common.{◌≡◌, ℕ, ◌+◌, ◌≤◌, ◌<◌, Bool, true, false, eqb, List, [], ◌∷◌, ◌++◌, Option, None, Some, length, sym, refl, ap, ◌∙◌, subst, arith, ℤ, pos, ◌+ℤ◌}
+use Rattle.std.proofs.Common.{◌≡◌, ℕ, ◌+◌, ◌≤◌, ◌<◌, Bool, false, eqb, List, [], ◌∷◌, ◌++◌, Option, None, Some, length, sym, refl, ap, ◌∙◌, subst, arith, pos, ◌+ℤ◌}
 use Rattle.std.specs.Prelude.{◌==◌, ◌||◌}
-use Rattle.std.specs.List.{fold, list_any}
+use Rattle.std.specs.List.{list_any}
 use Rattle.std.specs.Option.{option_or}
 use Rattle.std.proofs.lemmas.Bool.{cond-true, cond-false, eq-eqb, ne_eqb}
 use Rattle.std.proofs.lemmas.Int.{ints}
@@ -20,7 +20,7 @@ use Rattle.ph_rows.specs.declared.transactions.Txn.{Txn}
 use Rattle.ph_rows.specs.Batches.{BatchState, last_place, with_row, with_announced}
 use Rattle.ph_rows.specs.Items.{charge_in}
 use Rattle.ph_rows.specs.Rows.{row_at, later_version, latest_of}
-use Rattle.ph_rows.specs.Sound.{AreHeld, HasSums, HasSumsAt, HaveSums, IsSound}
+use Rattle.ph_rows.specs.Sound.{HasSums, HasSumsAt, HaveSums, IsSound}
 use Rattle.ph_rows.specs.Transactions.{captured_by, captured_of, refunded_of}
 use Rattle.ph_rows.specs.Views.{ViewState}
 use Rattle.ph_rows.proofs.ChargeLemmas.{captured_of-append, captured_of-apart, captured_of-later, refunded_of-append, refunded_of-apart, refunded_of-later, neither_part, sums_known, sums_of_others, sums_stay, touches}
@@ -66,9 +66,9 @@ held_sums rows n p a k charge none_captured none_refunded no_capture no_refund =
     sums : HasSums n charge (rows ++ charge_row p n a k charge ∷ [])
     sums =
         let captured : captured_of n (rows ++ charge_row p n a k charge ∷ []) ≡ captured_of n rows +ℤ pos 0 =
-            captured_of-append n rows (charge_row p n a k charge ∷ []) in
+        captured_of-append n rows (charge_row p n a k charge ∷ []) in
         let refunded : refunded_of n (rows ++ charge_row p n a k charge ∷ []) ≡ refunded_of n rows + 0 =
-            refunded_of-append n rows (charge_row p n a k charge ∷ []) in
+        refunded_of-append n rows (charge_row p n a k charge ∷ []) in
         record {
           captured = omega (arith, ints);
           refunded = omega arith;
@@ -94,10 +94,10 @@ captured_sums rows n p a k charge q o b l txn other takes none_captured none_ref
     sums : HasSums n charge (rows ++ charge_row p n a k charge ∷ txn_row q o b l txn ∷ [])
     sums =
         let captured : captured_of n (rows ++ charge_row p n a k charge ∷ txn_row q o b l txn ∷ [])
-            ≡ captured_of n rows +ℤ (pos 0 +ℤ (captured_by n (Some txn) +ℤ pos 0)) =
-            captured_of-append n rows (charge_row p n a k charge ∷ txn_row q o b l txn ∷ []) in
+        ≡ captured_of n rows +ℤ (pos 0 +ℤ (captured_by n (Some txn) +ℤ pos 0)) =
+        captured_of-append n rows (charge_row p n a k charge ∷ txn_row q o b l txn ∷ []) in
         let refunded : refunded_of n (rows ++ charge_row p n a k charge ∷ txn_row q o b l txn ∷ []) ≡ refunded_of n rows + 0 =
-            refunded_of-append n rows (charge_row p n a k charge ∷ txn_row q o b l txn ∷ []) in
+        refunded_of-append n rows (charge_row p n a k charge ∷ txn_row q o b l txn ∷ []) in
         record {
           captured = omega (arith, ints);
           refunded = omega arith;
@@ -137,7 +137,7 @@ next_is_later : (batch : BatchState) (account n : ℕ) (version : Charge) → n 
     → next_place batch account n version ≡ n → ⊥
 next_is_later batch account n version here e =
     let longer : length (with_row batch n account (item.Charge version)).rows ≡ length batch.rows + 1 =
-        length-append batch.rows (charge_row (last_place batch + 1) n batch.at account version ∷ []) in
+    length-append batch.rows (charge_row (last_place batch + 1) n batch.at account version ∷ []) in
     omega arith
 
 -- with a capture behind rows that captured nothing of a charge, the charge has its sums

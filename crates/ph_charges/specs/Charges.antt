@@ -1,5 +1,5 @@
 -- The versions of a charge.
-use Rattle.std.specs.Prelude.{ℕ, ◌+◌, Option, None, Some}
+use Rattle.std.specs.Prelude.{ℕ, ◌+◌, None, Some}
 use Rattle.ph_rows.specs.declared.charges.Capture.{Capture}
 use Rattle.ph_rows.specs.declared.charges.Charge.{Charge}
 use Rattle.ph_rows.specs.declared.charges.ChargeStatus.{ChargeStatus}

@@ -62,14 +62,7 @@ fn told(row: &Row) -> Option<(EventKind, u64)> {
 }
 
 // The transaction is one of a charge in usd, with this amount, fee and moment.
-fn is_charged(
-    rt: &impl Abort,
-    txn: &Txn,
-    number: u64,
-    amount: i32,
-    fee: i32,
-    available_on: u64,
-) {
+fn is_charged(rt: &impl Abort, txn: &Txn, number: u64, amount: i32, fee: i32, available_on: u64) {
     assert_eq!(rt; txn.sort, TxnType::Charge);
     assert_eq!(rt; txn.source, TxnSource::Charge(number));
     assert_eq!(rt; txn.currency, Currency::Usd);
@@ -97,7 +90,10 @@ fn an_approval_that_is_captured(rt: HostRuntime) -> Result<(), Fail> {
     assert_eq!(rt; made.amount.units(), 1099);
     assert_eq!(rt; made.amount_captured.units(), 1099);
     let settled = made.capture.ok_or("not captured")?;
-    assert_eq!(rt; (settled.transaction, settled.available_on), (7, NOW + 172800));
+    assert_eq!(rt;
+        (settled.transaction, settled.available_on),
+        (7, NOW + 172800)
+    );
     assert_eq!(rt; made.metadata.len(), 1);
     assert_eq!(rt; (rows[1].place, rows[1].object, rows[1].account), (7, 7, 1));
     let given = txn(&rows[1])?;
@@ -175,12 +171,18 @@ fn a_capture_of_a_part(rt: HostRuntime) -> Result<(), Fail> {
     capture(alloc, &view, 6, Amount::new(1500), &mut batch)?;
     let rows = batch.into_rows(alloc, None)?;
     assert_eq!(rt; rows.len(), 3);
-    assert_eq!(rt; (rows[0].place, rows[0].object, rows[0].account), (10, 6, 1));
+    assert_eq!(rt;
+        (rows[0].place, rows[0].object, rows[0].account),
+        (10, 6, 1)
+    );
     let made = charge(&rows[0])?;
     assert_eq!(rt; made.amount.units(), 2000);
     assert_eq!(rt; made.amount_captured.units(), 1500);
     let settled = made.capture.ok_or("not captured")?;
-    assert_eq!(rt; (settled.transaction, settled.available_on), (11, NOW + 172860));
+    assert_eq!(rt;
+        (settled.transaction, settled.available_on),
+        (11, NOW + 172860)
+    );
     is_charged(&rt, &txn(&rows[1])?, 6, 1500, 74, NOW + 172860);
     assert_eq!(rt; told(&rows[2]), Some((EventKind::ChargeCaptured, 6)));
     Ok(())

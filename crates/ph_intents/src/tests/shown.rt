@@ -2,7 +2,7 @@
 
 use ph_base::{Bytes, Decline, Method, NoMemory};
 use ph_errors::ApiError;
-use ph_money::Amount;
+use ph_money::{Amount, SignedAmount};
 use ph_rows::{
     Attempt, AttemptState, Charge, Intent, Item, Metadata, Order, PaymentError, PaymentMethod, Row,
     Txn, TxnSource,
@@ -141,15 +141,22 @@ fn source_number(source: TxnSource) -> u64 {
     }
 }
 
-/// A transaction of amounts from 0 on as `txn TYPE AMOUNT CURRENCY fee=FEE on=MOMENT source=NUMBER`.
+fn add_units(alloc: Global, shown: &mut Vec<u8>, amount: SignedAmount) -> Result<(), NoMemory> {
+    let text = amount.units().to_string(alloc)?;
+    shown.extend_from_slice(text.as_bytes())?;
+    Ok(())
+}
+
+/// A transaction as `txn TYPE AMOUNT CURRENCY fee=FEE on=MOMENT source=NUMBER`.
 fn add_txn(alloc: Global, shown: &mut Vec<u8>, txn: Txn) -> Result<(), NoMemory> {
     shown.extend_from_slice(b"txn ")?;
     shown.extend_from_slice(txn.sort.text())?;
     shown.push(b' ')?;
-    add_number(alloc, shown, txn.amount.units() as u64)?;
+    add_units(alloc, shown, txn.amount)?;
     shown.push(b' ')?;
     shown.extend_from_slice(txn.currency.code())?;
-    add_named_number(alloc, shown, b"fee", txn.fee.units() as u64)?;
+    shown.extend_from_slice(b" fee=")?;
+    add_units(alloc, shown, txn.fee)?;
     add_named_number(alloc, shown, b"on", txn.available_on)?;
     add_named_number(alloc, shown, b"source", source_number(txn.source))
 }
