@@ -1,10 +1,9 @@
 -- The rows of a refund may be entered.
 use Rattle.std.specs.Prelude.{option_and_then}
-use Rattle.std.proofs.Common.{◌≡◌, ℕ, ◌+◌, ◌-◌, ◌^◌, ◌≤◌, ◌<◌, true, List, [], ◌∷◌, ◌++◌, Option, None, Some, length, refl, sym, ap, ◌∙◌, subst, arith}
+use Rattle.std.proofs.Common.{◌≡◌, ℕ, ◌+◌, ◌^◌, ◌≤◌, ◌<◌, true, [], ◌∷◌, ◌++◌, Option, Some, length, refl, sym, ap, ◌∙◌, subst, arith}
 use Rattle.std.proofs.lemmas.List.{length-append}
 use Rattle.std.specs.List.{list_all}
 use Rattle.std.specs.Str.{is_utf8}
-use Rattle.ph_base.specs.declared.ids.Kind.{Kind}
 use Rattle.ph_calls.specs.declared.call.CreateRefund.{CreateRefund}
 use Rattle.ph_calls.specs.Keeps.{AreUtf8, IsReady, batch_after}
 use Rattle.ph_kinds.proofs.KeptLemmas.{first_kept}
@@ -20,8 +19,8 @@ use Rattle.ph_rows.specs.Entering.{IsToldBy, MayBeEntered}
 use Rattle.ph_rows.specs.Items.{charge_in}
 use Rattle.ph_rows.specs.Kinds.{kind_of}
 use Rattle.ph_rows.specs.Origins.{HasOrigin}
-use Rattle.ph_rows.specs.Rows.{row_at, latest_of}
-use Rattle.ph_rows.specs.Sound.{AllMayFollow, HasSums, IsInOrder, IsSound, MayFollow, charge_of, with_next}
+use Rattle.ph_rows.specs.Rows.{row_at}
+use Rattle.ph_rows.specs.Sound.{AllMayFollow, HasSums, IsInOrder, MayFollow, with_next}
 use Rattle.ph_rows.specs.Views.{ViewState}
 use Rattle.ph_rows.specs.Weights.{texts_of}
 use Rattle.ph_rows.proofs.AmountLemmas.{IsRefunded, latest_of-last, refunded_sums}

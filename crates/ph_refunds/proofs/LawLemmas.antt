@@ -1,19 +1,16 @@
 -- The laws of refunds.
 use Rattle.std.specs.Prelude.{◌==◌, nat_lt, unwrap_or, codes}
-use Rattle.std.proofs.Common.{◌≡◌, ℕ, ◌+◌, ◌≤◌, ◌<◌, Bool, true, false, cond, eqb, List, Option, None, Some, refl, ap, arith}
+use Rattle.std.proofs.Common.{◌≡◌, ℕ, ◌+◌, ◌≤◌, ◌<◌, false, eqb, Option, None, Some, refl, ap, arith}
 use Rattle.std.proofs.lemmas.Bool.{cond_both, eqb-false}
 use Rattle.std.proofs.lemmas.Bool.Decides.{nat_tests}
-use Rattle.ph_calls.specs.declared.call.CreateRefund.{CreateRefund}
-use Rattle.ph_calls.specs.Keeps.{AddsSound, AreUtf8, IsReady, KeepsSound, batch_after}
-use Rattle.ph_calls.specs.Outcomes.{Outcome, Refuses, Adds}
+use Rattle.ph_calls.specs.Keeps.{AddsSound, KeepsSound, batch_after}
+use Rattle.ph_calls.specs.Outcomes.{Refuses, Adds}
 use Rattle.ph_errors.specs.Table.{error_of, ChargeAlreadyRefunded, ChargeDisputed, InvalidValue}
 use Rattle.ph_rows.specs.declared.rows.Row.{Row}
 use Rattle.ph_rows.specs.declared.charges.Capture.{Capture}
 use Rattle.ph_rows.specs.declared.charges.Charge.{Charge}
 use Rattle.ph_rows.specs.Batches.{BatchState, last_place}
 use Rattle.ph_rows.specs.Sound.{HasSums}
-use Rattle.ph_rows.specs.Transactions.{refunded_of}
-use Rattle.ph_rows.specs.Views.{ViewState}
 use Rattle.ph_refunds.specs.Entry.{refund_rows}
 use Rattle.ph_refunds.specs.Laws.{RefundsAreSums, refund_texts}
 use Rattle.ph_refunds.specs.Refunds.{is_disputed, left_of, refund_amount, refund_by, refund_left, refund_of, refund_outcome, summed}

@@ -1,5 +1,5 @@
 -- The rows that a refund adds.
-use Rattle.std.specs.Prelude.{ℕ, ◌+◌, max, pos, neg_ℤ, Option, Some}
+use Rattle.std.specs.Prelude.{ℕ, ◌+◌, max, pos, neg_ℤ}
 use Rattle.ph_calls.specs.declared.call.CreateRefund.{CreateRefund}
 use Rattle.ph_kinds.specs.Kept.{first_metadata}
 use Rattle.ph_rows.specs.declared.charges.Capture.{Capture}

@@ -35,8 +35,11 @@ fn refunded_charge(alloc: Global, amount: Amount, charge: &Charge) -> Result<Cha
     ensures { IfOk result (λ refunded. refunded ≡ refunded_charge amount charge.now) }
 {
     let mut refunded = charge.copy(alloc)?;
-    refunded.amount_refunded =
-        refunded_with(charge.amount_captured, charge.amount_refunded, amount);
+    refunded.amount_refunded = refunded_with(
+        charge.amount_captured,
+        charge.amount_refunded,
+        amount,
+    );
     Ok(refunded)
 }
 

@@ -103,12 +103,7 @@ const BOTH_WAYS: [(Option<&'static [u8]>, Option<&'static [u8]>); 2] = [
 ];
 
 // The refund is refused with this error, and nothing is added.
-fn is_refused(
-    rt: &impl Abort,
-    alloc: Global,
-    view: &ListView,
-    want: &Refused,
-) -> Result<(), Fail> {
+fn is_refused(rt: &impl Abort, alloc: Global, view: &ListView, want: &Refused) -> Result<(), Fail> {
     let asked = call(alloc, want.charge, want.intent, want.amount)?;
     let count = view.rows().len() as u64;
     let mut batch = Batch::new(alloc, count, view.time(), 3);

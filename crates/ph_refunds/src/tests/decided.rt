@@ -4,9 +4,7 @@ use super::rows::{DUE, OPENED, call, enter, payment, row};
 use ph_base::{Bytes, NoMemory};
 use ph_kinds::{Meta, Pairs};
 use ph_money::Currency;
-use ph_rows::{
-    EventKind, Item, ListView, RefundReason, TxnSource, TxnType, View,
-};
+use ph_rows::{EventKind, Item, ListView, RefundReason, TxnSource, TxnType, View};
 use std::process::Abort;
 use std::test::Fail;
 
@@ -24,23 +22,38 @@ fn are_rows_of(
     available_on: u64,
 ) -> Result<(), Fail> {
     let first = row(view, place)?;
-    assert_eq!(rt; (first.place, first.object, first.account), (place, place, 1));
+    assert_eq!(rt;
+        (first.place, first.object, first.account),
+        (place, place, 1)
+    );
     let made = first.item.refund().ok_or("no refund")?;
     assert_eq!(rt; (made.charge, made.intent), (6, 2));
     assert_eq!(rt; made.amount.units(), amount);
     assert_eq!(rt; made.currency, Currency::Usd);
     assert_eq!(rt; Some(made.transaction), place.checked_add(1));
     let second = row(view, made.transaction)?;
-    assert_eq!(rt; (second.place, second.object, second.account), (made.transaction, made.transaction, 1));
+    assert_eq!(rt;
+        (second.place, second.object, second.account),
+        (made.transaction, made.transaction, 1)
+    );
     let taken = second.item.txn().ok_or("no transaction")?;
-    assert_eq!(rt; (taken.sort, taken.source), (TxnType::Refund, TxnSource::Refund(place)));
+    assert_eq!(rt;
+        (taken.sort, taken.source),
+        (TxnType::Refund, TxnSource::Refund(place))
+    );
     assert_eq!(rt; -(taken.amount.units() as i64), amount as i64);
     assert_eq!(rt; taken.fee.units(), 0);
-    assert_eq!(rt; (taken.currency, taken.available_on), (Currency::Usd, available_on));
+    assert_eq!(rt;
+        (taken.currency, taken.available_on),
+        (Currency::Usd, available_on)
+    );
     let third = row(view, place.saturating_add(2))?;
     assert_eq!(rt; (third.object, third.account), (6, 1));
     let left = third.item.charge().ok_or("no charge")?;
-    assert_eq!(rt; (left.amount_captured.units(), left.amount_refunded.units()), (2000, refunded));
+    assert_eq!(rt;
+        (left.amount_captured.units(), left.amount_refunded.units()),
+        (2000, refunded)
+    );
     let fourth = row(view, place.saturating_add(3))?;
     match &fourth.item {
         Item::Event(event) => {

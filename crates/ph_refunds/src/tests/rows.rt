@@ -157,11 +157,7 @@ pub fn call(
 }
 
 /// Carries a refund out, and enters its rows behind those of the view. The answer is the refund's number.
-pub fn enter(
-    alloc: Global,
-    view: &mut ListView,
-    call: &CreateRefund,
-) -> Result<u64, Fail> {
+pub fn enter(alloc: Global, view: &mut ListView, call: &CreateRefund) -> Result<u64, Fail> {
     let count = view.rows().len() as u64;
     let mut batch = Batch::new(alloc, count, view.time(), 3);
     let number = match refund(alloc, view, 1, call, &mut batch) {
