@@ -6,3 +6,5 @@ pub mod EffectLemmas
 pub mod LawLemmas
 pub mod StepLemmas
 pub mod StoreLemmas
+pub mod SoundLemmas
+pub mod MoneyLemmas
