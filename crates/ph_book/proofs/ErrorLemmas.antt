@@ -154,14 +154,14 @@ create_answered c =
     let checks : List (Bool × ApiError) =
     (nat_lt c.amount (terms_of c.currency).minimum, error_of AmountTooSmall) ∷
     (c.confirm && is_none c.payment_method, error_of (ParameterMissing (codes "payment_method"))) ∷ [] in
-    let all : AllAnswered checks = (answered AmountTooSmall, answered (ParameterMissing (codes "payment_method")), tt) in
+    let all : AllAnswered checks = (answered AmountTooSmall, (answered (ParameterMissing (codes "payment_method")), tt)) in
     checks_answered checks all
 
 refund_answered : (c : CreateRefund) → IfError (create_refund_error c)
 refund_answered c =
     let checks : List (Bool × ApiError) =
     (not (names_one c), error_of (ParameterMissing (codes "charge"))) ∷ (is_zero c.amount, error_of (InvalidValue (codes "amount"))) ∷ [] in
-    let all : AllAnswered checks = (answered (ParameterMissing (codes "charge")), answered (InvalidValue (codes "amount")), tt) in
+    let all : AllAnswered checks = (answered (ParameterMissing (codes "charge")), (answered (InvalidValue (codes "amount")), tt)) in
     checks_answered checks all
 
 clock_answered : (c : SetClock) → IfError (set_clock_error c)
