@@ -1,5 +1,5 @@
 -- A ledger after steps; balances over the transactions among rows.
-use Rattle.std.proofs.Common.{◌≡◌, ℕ, Bool, true, false, cond, List, [], ◌∷◌, ◌++◌, Option, None, Some, sym, refl, ap, ◌∙◌, subst, arith, ℤ, pos, ◌+ℤ◌}
+use Rattle.std.proofs.Common.{◌≡◌, ℕ, Bool, true, false, cond, List, [], ◌∷◌, ◌++◌, Option, None, sym, refl, ap, ◌∙◌, subst, arith, ℤ, pos, ◌+ℤ◌}
 use Rattle.std.specs.Prelude.{is_some, ◌==◌}
 use Rattle.std.specs.List.{fold, filter, filter_map, cons_option}
 use Rattle.std.proofs.lemmas.Int.{ints}
@@ -13,7 +13,7 @@ use Rattle.ph_rows.specs.Balances.{movement_of, currency_number, net_of, counts,
 use Rattle.ph_rows.specs.Items.{txn_in}
 use Rattle.ph_rows.specs.Views.{ViewState}
 use Rattle.ph_rows.proofs.BalanceLemmas.{balance_of-cons}
-use Rattle.ph_ledger.specs.Steps.{Step, Posts, Advances, after, posted_by, moment_after, no_ledger, ledger_after, posted_rows, last_moment, is_txn}
+use Rattle.ph_ledger.specs.Steps.{Step, Posts, Advances, after, posted_by, moment_after, no_ledger, is_txn}
 use Rattle.ph_ledger.specs.Laws.{BalancesAreSums, OnlyTransactionsCount}
 
 -- a ledger after steps: the rows that they post behind its own, and the moment to which they advance
@@ -54,8 +54,8 @@ past_it : (available : Bool) (account : ℕ) (currency : Currency) (time : ℕ) 
     → is_txn row ≡ false → balance_of available account currency time rows ≡ balance_of available account currency time (row ∷ rows)
 past_it available account currency time row rows other =
     let nothing : balance_of available account currency time (row ∷ []) ≡ pos 0 =
-        no_balance (row.account == account) (counts available time) (λ movement. currency_number movement.currency == currency_number currency) row
-        (moves_nothing row.item other) in
+    no_balance (row.account == account) (counts available time) (λ movement. currency_number movement.currency == currency_number currency) row
+    (moves_nothing row.item other) in
     let parts = balance_of-cons available account currency time row rows in
     omega (arith, ints)
 
