@@ -2,7 +2,7 @@
 use Rattle.std.specs.Prelude.{option_and_then}
 use Rattle.std.proofs.Common.{◌≡◌, ℕ, ◌+◌, ◌^◌, ◌≤◌, ◌<◌, false, cond, eqb, List, [], ◌∷◌, ◌++◌, Option, None, Some, length, refl, sym, ap, ◌∙◌, arith}
 use Rattle.std.specs.List.{list_any}
-use Rattle.std.proofs.lemmas.Bool.{cond-true, cond-false, eq-eqb, ne_eqb}
+use Rattle.std.proofs.lemmas.Bool.{cond-false, ne_eqb}
 use Rattle.std.proofs.lemmas.List.{append_assoc}
 use Rattle.std.proofs.lemmas.List.Sums.{fold_push}
 use Rattle.ph_base.specs.declared.acquirer.Method.{Method}
@@ -23,6 +23,7 @@ use Rattle.ph_rows.specs.Sound.{HaveSums, IsHeldAt, IsHeldBy, IsSound, charge_of
 use Rattle.ph_rows.specs.Views.{ViewState}
 use Rattle.ph_rows.specs.Weights.{texts_of}
 use Rattle.ph_rows.specs.Words.{subject_of}
+use Rattle.ph_rows.proofs.AmountLemmas.{latest_of-last}
 use Rattle.ph_rows.proofs.BatchLemmas.{MayStand}
 use Rattle.ph_rows.proofs.ChargeLemmas.{sums_stay, touches}
 use Rattle.ph_rows.proofs.HeldLemmas.{AllLeave, held_known, held_of_others}
@@ -46,9 +47,7 @@ pub last_version : (rows : List Row) (batch : BatchState) (object account : ℕ)
     → latest_of object (rows ++ (with_row batch object account content).rows) ≡ Some (next_row batch object account content)
 last_version rows batch object account content =
     let new = next_row batch object account content in
-    ap (latest_of object) (sym (append_assoc rows batch.rows (new ∷ [])))
-    ∙ fold_push (later_version object) None (rows ++ batch.rows) new
-    ∙ cond-true (eqb object object) (Some new) (latest_of object (rows ++ batch.rows)) (eq-eqb object object refl)
+    ap (latest_of object) (sym (append_assoc rows batch.rows (new ∷ []))) ∙ latest_of-last (rows ++ batch.rows) new
 
 -- and as before, where the last row is one of another object
 pub other_version : (rows : List Row) (batch : BatchState) (object other account : ℕ) (content : Item) → (other ≡ object → ⊥)

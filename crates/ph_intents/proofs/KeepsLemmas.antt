@@ -25,8 +25,10 @@ use Rattle.ph_intents.specs.Authenticate.{authenticate_of, authenticate_outcome,
 use Rattle.ph_intents.specs.Cancel.{cancel_of, cancel_outcome, canceled_intent}
 use Rattle.ph_intents.specs.Confirm.{confirm_of, confirm_with, confirm_outcome, paying_intent}
 use Rattle.ph_intents.specs.Create.{new_intent, first_status, create_outcome, create_by, create_confirmed_outcome}
-use Rattle.ph_intents.specs.Keeps.{AddsSound, AreUtf8, KeepsSound, batch_after, create_texts, update_texts, confirm_texts, no_texts, named_texts}
-use Rattle.ph_intents.specs.Metadata.{first_metadata, merged_metadata}
+use Rattle.ph_intents.specs.Keeps.{AddsSound, AreUtf8, KeepsSound, batch_after, create_texts, update_texts, confirm_texts, no_texts}
+use Rattle.ph_kinds.specs.Kept.{first_metadata, named_texts}
+use Rattle.ph_kinds.proofs.KeptLemmas.{first_kept}
+use Rattle.ph_intents.specs.Metadata.{merged_metadata}
 use Rattle.ph_intents.specs.Refusals.{invalid_value}
 use Rattle.ph_intents.specs.Statuses.{next_status}
 use Rattle.ph_intents.specs.Update.{most_keys, step_of, update_with, update_of, updated_intent, update_outcome}
@@ -35,7 +37,7 @@ use Rattle.ph_intents.specs.declared.statuses.Step.TheVariants as step
 use Rattle.ph_intents.proofs.EnterLemmas.{Waits, created_underway, created_enters, told_enters, version_enters}
 use Rattle.ph_intents.proofs.FoundLemmas.{IsFound, keeps_at, keeps_allowed, found_attempted, found_underway, found_texts, found_told, found_waits}
 use Rattle.ph_intents.proofs.StatusLemmas.{waited_before}
-use Rattle.ph_intents.proofs.TextLemmas.{front_text, with_front, either_text, either_method, first_kept, merged_kept}
+use Rattle.ph_intents.proofs.TextLemmas.{front_text, with_front, either_text, either_method, merged_kept}
 
 -- the texts of a payment intent behind the name of its payment method
 abbrev pub other_texts : Intent → List (List ℕ)

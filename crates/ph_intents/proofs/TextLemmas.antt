@@ -8,23 +8,14 @@ use Rattle.std.specs.declared.cmp.Ordering.{Ordering}
 use Rattle.std.specs.declared.cmp.Ordering.TheVariants.{Less, Equal, Greater}
 use Rattle.ph_kinds.specs.declared.metadata.Meta.{Meta}
 use Rattle.ph_kinds.specs.declared.metadata.Meta.TheVariants as meta
+use Rattle.ph_kinds.specs.Kept.{named_texts, pair_texts}
+use Rattle.ph_kinds.proofs.KeptLemmas.{and, first_text, pair_put}
 use Rattle.ph_rows.specs.declared.metadata_pairs.MetadataPair.{MetadataPair}
 use Rattle.ph_rows.specs.declared.payment_methods.PaymentMethod.{PaymentMethod}
-use Rattle.ph_rows.specs.Metadata.{name_cmp, placed_pair, with_pair, without_pair}
+use Rattle.ph_rows.specs.Metadata.{with_pair, without_pair}
 use Rattle.ph_rows.specs.Weights.{with_text, method_text, metadata_texts}
-use Rattle.ph_intents.specs.Keeps.{AreUtf8, pair_texts, named_texts}
-use Rattle.ph_intents.specs.Metadata.{with_key, with_keys, first_metadata, with_change, with_changes, merged_metadata}
-
-both : (a b : Bool) → (a && b) ≡ true → (a ≡ true) × (b ≡ true)
-both true b h = (refl, h)
-both false b h = absurd (false≢true h)
-
-and : {a b : Bool} → a ≡ true → b ≡ true → (a && b) ≡ true
-and p q = rw (p, q) refl
-
--- the first text, and the others
-pub first_text : (text : List ℕ) (texts : List (List ℕ)) → AreUtf8 (text ∷ texts) → (is_utf8 text ≡ true) × AreUtf8 texts
-first_text text texts h = both (is_utf8 text) (list_all is_utf8 texts) h
+use Rattle.ph_calls.specs.Keeps.{AreUtf8}
+use Rattle.ph_intents.specs.Metadata.{with_change, with_changes, merged_metadata}
 
 -- a text in front that may be there, and the others
 pub front_text : (text : Option (List ℕ)) (texts : List (List ℕ)) → AreUtf8 (with_text text texts)
@@ -48,22 +39,6 @@ pub either_method : (named kept : Option PaymentMethod) → AreUtf8 (with_text (
 either_method None kept h k = k
 either_method (Some method) kept h k = h
 
--- the texts of metadata with a pair put in
-pub pair_put : (new : MetadataPair) (pairs : List MetadataPair) → is_utf8 new.key ≡ true → is_utf8 new.value ≡ true
-    → AreUtf8 (metadata_texts pairs) → AreUtf8 (metadata_texts (with_pair new pairs))
-pair_put new [] key value h = and key (and value refl)
-pair_put new (pair ∷ pairs) key value h =
-    let front = first_text pair.key (pair.value ∷ metadata_texts pairs) h in
-    let back = first_text pair.value (metadata_texts pairs) front.1 in
-    placed (name_cmp new.key pair.key) front.0 back.0 back.1 (pair_put new pairs key value back.1)
-  where
-    placed : (how : Ordering) → is_utf8 pair.key ≡ true → is_utf8 pair.value ≡ true → AreUtf8 (metadata_texts pairs)
-        → AreUtf8 (metadata_texts (with_pair new pairs))
-        → AreUtf8 (metadata_texts (placed_pair how new pair pairs (with_pair new pairs)))
-    placed Less k v rest further = and key (and value (and k (and v rest)))
-    placed Equal k v rest further = and key (and value rest)
-    placed Greater k v rest further = and k (and v further)
-
 -- the texts of metadata with a pair taken away
 pub pair_taken : (key : List ℕ) (pairs : List MetadataPair) → AreUtf8 (metadata_texts pairs)
     → AreUtf8 (metadata_texts (without_pair key pairs))
@@ -75,16 +50,6 @@ pair_taken key (pair ∷ pairs) h =
     cond_both (not (bytes_eq pair.key key)) (pair ∷ without_pair key pairs) (without_pair key pairs)
     (λ (left : List MetadataPair). AreUtf8 (metadata_texts left))
     (λ kept. and front.0 (and back.0 rest)) (λ gone. rest)
-
--- the texts of metadata with keys set
-pub keys_set : (pairs : List MetadataPair) (named : List (List ℕ × List ℕ)) → AreUtf8 (pair_texts named)
-    → AreUtf8 (metadata_texts pairs) → AreUtf8 (metadata_texts (with_keys pairs named))
-keys_set pairs [] h k = k
-keys_set pairs (pair ∷ named) h k =
-    let front = first_text pair.0 (pair.1 ∷ pair_texts named) h in
-    let back = first_text pair.1 (pair_texts named) front.1 in
-    keys_set (with_key pairs pair) named back.1
-    (pair_put (record { key = pair.0; value = pair.1 }) pairs front.0 back.0 k)
 
 -- the texts of metadata with a key changed
 change_made : (pairs : List MetadataPair) (key text : List ℕ) → is_utf8 key ≡ true → is_utf8 text ≡ true
@@ -100,12 +65,6 @@ changes_made pairs (pair ∷ named) h k =
     let front = first_text pair.0 (pair.1 ∷ pair_texts named) h in
     let back = first_text pair.1 (pair_texts named) front.1 in
     changes_made (with_change pairs pair.0 pair.1) named back.1 (change_made pairs pair.0 pair.1 front.0 back.0 k)
-
--- the texts of the metadata of a new object
-pub first_kept : (named : Option Meta) → AreUtf8 (named_texts named) → AreUtf8 (metadata_texts (first_metadata named))
-first_kept None h = refl
-first_kept (Some meta.Clear) h = refl
-first_kept (Some (meta.Set named)) h = keys_set [] named h refl
 
 -- the texts of the metadata that an update leaves
 pub merged_kept : (named : Option Meta) (pairs : List MetadataPair) → AreUtf8 (named_texts named)

@@ -4,6 +4,7 @@ use Rattle.ph_base.specs.declared.acquirer.Method.{Method}
 use Rattle.ph_calls.specs.declared.call.CreateIntent.{CreateIntent}
 use Rattle.ph_calls.specs.Outcomes.{Outcome, Refuses, Adds}
 use Rattle.ph_errors.specs.Table.{error_of, ParameterMissing}
+use Rattle.ph_kinds.specs.Kept.{first_metadata}
 use Rattle.ph_rows.specs.declared.rows.Row.{Row}
 use Rattle.ph_rows.specs.declared.intents.Intent.{Intent}
 use Rattle.ph_rows.specs.declared.intents.IntentStatus.{IntentStatus}
@@ -13,7 +14,6 @@ use Rattle.ph_rows.specs.declared.payment_methods.PaymentMethod.{PaymentMethod}
 use Rattle.ph_rows.specs.declared.event_kinds.EventKind.TheVariants as event
 use Rattle.ph_rows.specs.Batches.{BatchState, last_place, with_announced}
 use Rattle.ph_intents.specs.Attempts.{with_attempt}
-use Rattle.ph_intents.specs.Metadata.{first_metadata}
 use Rattle.ph_intents.specs.Versions.{with_version, adds_told}
 
 -- where a payment intent begins: it waits for a payment method, or for its confirmation where it has one

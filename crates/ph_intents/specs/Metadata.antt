@@ -1,24 +1,10 @@
--- The metadata that a call leaves.
+-- The metadata that an update leaves.
 use Rattle.std.specs.Prelude.{ℕ, List, [], ◌∷◌, Option, None, Some}
 use Rattle.std.specs.List.{fold}
 use Rattle.ph_kinds.specs.declared.metadata.Meta.{Meta}
 use Rattle.ph_kinds.specs.declared.metadata.Meta.TheVariants as meta
 use Rattle.ph_rows.specs.declared.metadata_pairs.MetadataPair.{MetadataPair}
 use Rattle.ph_rows.specs.Metadata.{with_pair, without_pair}
-
--- metadata with one key set to a text
-abbrev pub with_key : List MetadataPair → List ℕ × List ℕ → List MetadataPair
-with_key pairs named = with_pair (record { key = named.0; value = named.1 }) pairs
-
--- metadata with these keys set to their texts, one after another
-abbrev pub with_keys : List MetadataPair → List (List ℕ × List ℕ) → List MetadataPair
-with_keys pairs named = fold with_key pairs named
-
--- the metadata of a new object: what its call names, an empty text too
-abbrev pub first_metadata : Option Meta → List MetadataPair
-first_metadata None = []
-first_metadata (Some meta.Clear) = []
-first_metadata (Some (meta.Set named)) = with_keys [] named
 
 -- metadata with one key set to a text, or without it where the text is empty
 abbrev pub with_change : List MetadataPair → List ℕ → List ℕ → List MetadataPair

@@ -4,11 +4,11 @@ ghost use Rattle.ph_calls.specs.Outcomes.{Gives};
 ghost use Rattle.ph_intents.specs.Create.{create_confirmed_outcome, create_outcome, created_with, new_intent};
 
 use crate::attempts::add_attempt;
-use crate::metadata::first_metadata;
 use crate::refusals::parameter_missing;
 use ph_base::{Method, NoMemory};
 use ph_calls::CreateIntent;
 use ph_errors::Refusal;
+use ph_kinds::first_metadata;
 use ph_money::Amount;
 use ph_rows::{
     Batch, CaptureMethod, EventKind, Intent, IntentStatus, Item, View, copy_method, copy_text,

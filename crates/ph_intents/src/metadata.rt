@@ -1,37 +1,12 @@
-//! The metadata that a call leaves.
+//! The metadata that an update leaves.
 ghost use Rattle.std.specs.Prelude.{◌≡◌, IfOk, OnOk};
-ghost use Rattle.ph_intents.specs.Metadata.{first_metadata, merged_metadata, with_change, with_changes, with_keys};
+ghost use Rattle.ph_intents.specs.Metadata.{merged_metadata, with_change, with_changes};
 ghost use Rattle.std.specs.Option.{option_copied};
 
 use ph_base::{Bytes, NoMemory};
 use ph_kinds::Meta;
 use ph_rows::Metadata;
 use std::alloc::Global;
-
-// Sets keys to their texts, one after another. Where memory is wanting, some may be set.
-fn set_keys(
-    alloc: Global,
-    metadata: &mut Metadata,
-    named: &[(Bytes, Bytes)],
-) -> Result<(), NoMemory>
-    ensures { OnOk result (metadata.new ≡ with_keys metadata.old named.now) }
-{
-    for (key, text) in named {
-        metadata.set(key.copy(alloc)?, text.copy(alloc)?)?;
-    }
-    Ok(())
-}
-
-/// The metadata of a new object: what its call names.
-pub fn first_metadata(alloc: Global, named: Option<&Meta>) -> Result<Metadata, NoMemory>
-    ensures { IfOk result (λ metadata. metadata ≡ first_metadata (option_copied named.entry)) }
-{
-    let mut metadata = Metadata::new(alloc);
-    if let Some(Meta::Set(pairs)) = named {
-        set_keys(alloc, &mut metadata, pairs.as_slice())?;
-    }
-    Ok(metadata)
-}
 
 // Sets a key to a text, or takes it away where the text is empty.
 fn change_key(

@@ -20,15 +20,15 @@ both : (a b : Bool) → (a && b) ≡ true → (a ≡ true) × (b ≡ true)
 both true b h = (refl, h)
 both false b h = absurd (false≢true h)
 
-and : {a b : Bool} → a ≡ true → b ≡ true → (a && b) ≡ true
+pub and : {a b : Bool} → a ≡ true → b ≡ true → (a && b) ≡ true
 and p q = rw (p, q) refl
 
 -- the first text, and the others
-first_text : (text : List ℕ) (texts : List (List ℕ)) → AreUtf8 (text ∷ texts) → (is_utf8 text ≡ true) × AreUtf8 texts
+pub first_text : (text : List ℕ) (texts : List (List ℕ)) → AreUtf8 (text ∷ texts) → (is_utf8 text ≡ true) × AreUtf8 texts
 first_text text texts h = both (is_utf8 text) (list_all is_utf8 texts) h
 
 -- the texts of metadata with a pair put in
-pair_put : (new : MetadataPair) (pairs : List MetadataPair) → is_utf8 new.key ≡ true → is_utf8 new.value ≡ true
+pub pair_put : (new : MetadataPair) (pairs : List MetadataPair) → is_utf8 new.key ≡ true → is_utf8 new.value ≡ true
     → AreUtf8 (metadata_texts pairs) → AreUtf8 (metadata_texts (with_pair new pairs))
 pair_put new [] key value h = and key (and value refl)
 pair_put new (pair ∷ pairs) key value h =
