@@ -106,10 +106,15 @@ opened_settled rows count (Refuses error) settled = absurd settled
 opened_settled rows count (Adds object batch) settled =
     small_most IsAny count 10 16 _ (due_small IsAny (λ content is. tt) rows count 6 object batch settled) (omega arith)
 
-ruled_settled : (rows : List Row) (now place attempt : ℕ) (ruling : Ruling) → IsSettled (length rows) 16 (ruled_outcome rows now place attempt ruling)
+-- a ruling alone
+pub ruling_settled : (rows : List Row) (now place attempt : ℕ) (ruling : Ruling)
+    → IsSettled (length rows) 6 (settle_outcome rows attempt ruling (empty_batch (length rows) now place))
+ruling_settled rows now place attempt ruling = row_settled rows (length rows) now place ruling (latest_of attempt rows)
+
+pub ruled_settled : (rows : List Row) (now place attempt : ℕ) (ruling : Ruling) → IsSettled (length rows) 16 (ruled_outcome rows now place attempt ruling)
 ruled_settled rows now place attempt ruling =
     opened_settled rows (length rows) (settle_outcome rows attempt ruling (empty_batch (length rows) now place))
-    (row_settled rows (length rows) now place ruling (latest_of attempt rows))
+    (ruling_settled rows now place attempt ruling)
 
 -- ---- the rows of effects, and their steps
 

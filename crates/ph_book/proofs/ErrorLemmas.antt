@@ -14,6 +14,7 @@ use Rattle.ph_kinds.specs.declared.flaw.Flaw.TheVariants as flaw
 use Rattle.ph_kinds.specs.Kinds.{text_flaw, map_flaw}
 use Rattle.ph_money.specs.Currencies.{terms_of}
 use Rattle.ph_http.specs.declared.message.Raw.{Raw}
+use Rattle.ph_rows.specs.Sound.{clock_limit}
 use Rattle.ph_http.specs.Replies.{is_status}
 use Rattle.ph_calls.specs.declared.call.Call.{Call}
 use Rattle.ph_calls.specs.declared.call.Call.TheVariants as call
@@ -26,7 +27,7 @@ use Rattle.ph_calls.specs.Table.{Parameter, Line}
 use Rattle.ph_calls.specs.Check.{flawed, missing, error_by, error_with, first_error, first_that_holds, is_known, unknown_error, error_in}
 use Rattle.ph_calls.specs.Clock.{set_clock, set_clock_error}
 use Rattle.ph_calls.specs.Intents.{create_intent, create_intent_error}
-use Rattle.ph_calls.specs.Refunds.{create_refund, create_refund_error}
+use Rattle.ph_calls.specs.Refunds.{create_refund, create_refund_error, is_zero, names_one}
 use Rattle.ph_calls.specs.Reading.{fault_of, unless_error, call_of, reading_by, reading_at, reading_of}
 use Rattle.ph_calls.specs.Routes.{Route, Nowhere, To}
 
@@ -149,13 +150,25 @@ checks_answered (check ∷ checks) all =
     chosen IfError check.0 (Some check.1) (first_that_holds checks) all.0 (checks_answered checks all.1)
 
 create_answered : (c : CreateIntent) → IfError (create_intent_error c)
-create_answered c = checks_answered _ (answered AmountTooSmall, (answered (ParameterMissing (codes "payment_method")), tt))
+create_answered c =
+    let checks : List (Bool × ApiError) =
+    (nat_lt c.amount (terms_of c.currency).minimum, error_of AmountTooSmall) ∷
+    (c.confirm && is_none c.payment_method, error_of (ParameterMissing (codes "payment_method"))) ∷ [] in
+    let all : AllAnswered checks = (answered AmountTooSmall, (answered (ParameterMissing (codes "payment_method")), tt)) in
+    checks_answered checks all
 
 refund_answered : (c : CreateRefund) → IfError (create_refund_error c)
-refund_answered c = checks_answered _ (answered (ParameterMissing (codes "charge")), (answered (InvalidValue (codes "amount")), tt))
+refund_answered c =
+    let checks : List (Bool × ApiError) =
+    (not (names_one c), error_of (ParameterMissing (codes "charge"))) ∷ (is_zero c.amount, error_of (InvalidValue (codes "amount"))) ∷ [] in
+    let all : AllAnswered checks = (answered (ParameterMissing (codes "charge")), (answered (InvalidValue (codes "amount")), tt)) in
+    checks_answered checks all
 
 clock_answered : (c : SetClock) → IfError (set_clock_error c)
-clock_answered c = checks_answered _ (answered (ParameterInvalidInteger (codes "now")), tt)
+clock_answered c =
+    let checks : List (Bool × ApiError) = (nat_lt clock_limit c.now, error_of (ParameterInvalidInteger (codes "now"))) ∷ [] in
+    let all : AllAnswered checks = (answered (ParameterInvalidInteger (codes "now")), tt) in
+    checks_answered checks all
 
 -- a call that is refused by its further checks
 call_answered : (called : Name) (id : List ℕ) (leaves : List Leaf) → IfRefused (call_of called id leaves)

@@ -365,42 +365,54 @@ pub due_small : (P : Item → Type 0) → ((content : Item) → IsNoAttempt cont
     → IsSmall P count most batch → IsSmall P count (most + 4) (open_due_of rows object batch)
 due_small P other rows count most object batch small = opened_small P other rows count most (due_charge batch.rows object) batch small
 
--- the capture, and the opening of a dispute
-amount_fit : (rows : List Row) (count now place account amount object : ℕ) (intent : Intent) (status : IntentStatus)
-    → IsFit count (and_opened rows (capture_amount rows account amount (empty_batch count now place) object intent status))
-amount_fit rows count now place account amount object intent status =
+-- an error that can be answered; or a small batch with no attempt
+abbrev pub IsQuiet : ℕ → ℕ → Outcome → Type 0
+IsQuiet count most (Refuses error) = IsAnswered error
+IsQuiet count most (Adds object batch) = IsSmall IsNoAttempt count most batch
+
+-- the capture
+amount_quiet : (rows : List Row) (count now place account amount object : ℕ) (intent : Intent) (status : IntentStatus)
+    → IsQuiet count 5 (capture_amount rows account amount (empty_batch count now place) object intent status)
+amount_quiet rows count now place account amount object intent status =
     let captured : BatchState = with_charge_captured rows amount intent.latest_charge (empty_batch count now place) in
-    let told : Outcome = adds_told account object (received_intent amount intent status) event.IntentSucceeded captured in
-    let small : IsSmall IsNoAttempt count 5 (with_announced (with_version account object (received_intent amount intent status) captured) event.IntentSucceeded object) =
-    small_told IsNoAttempt count 4 _ _ _
-    (small_row IsNoAttempt count 3 _ _ _ _ (charge_captured_small rows count 0 amount intent.latest_charge _ (empty_small IsNoAttempt count now place)) refl) in
-    chosen (λ outcome. IsFit count (and_opened rows outcome)) (amount == 0 || nat_lt intent.amount_capturable amount)
-    (invalid_value (codes "amount_to_capture")) told (answered (InvalidValue (codes "amount_to_capture")))
-    (no_attempt_fit count 9 object _ (due_small IsNoAttempt (λ content is. is) rows count 5 object _ small) (omega arith))
+    chosen (IsQuiet count 5) (amount == 0 || nat_lt intent.amount_capturable amount) (invalid_value (codes "amount_to_capture"))
+    (adds_told account object (received_intent amount intent status) event.IntentSucceeded captured) (answered (InvalidValue (codes "amount_to_capture")))
+    (small_told IsNoAttempt count 4 _ _ _
+    (small_row IsNoAttempt count 3 _ _ _ _ (charge_captured_small rows count 0 amount intent.latest_charge _ (empty_small IsNoAttempt count now place)) refl))
 
-capture_allowed : (rows : List Row) (count : ℕ) (further : IntentStatus → Outcome) (status : Option IntentStatus)
-    → ((status : IntentStatus) → IsFit count (and_opened rows (further status))) → IsFit count (and_opened rows (if_allowed further status))
-capture_allowed rows count further None fit = answered UnexpectedState
-capture_allowed rows count further (Some status) fit = fit status
+quiet_allowed : (count most : ℕ) (further : IntentStatus → Outcome) (status : Option IntentStatus) → ((status : IntentStatus) → IsQuiet count most (further status))
+    → IsQuiet count most (if_allowed further status)
+quiet_allowed count most further None quiet = answered UnexpectedState
+quiet_allowed count most further (Some status) quiet = quiet status
 
-capture_found : (rows : List Row) (count : ℕ) (operation : ℕ → Intent → Outcome) (found : Option Row)
-    → ((object : ℕ) (intent : Intent) → IsFit count (and_opened rows (operation object intent))) → IsFit count (and_opened rows (made_of_row operation found))
-capture_found rows count operation None fit = answered (NoSuchObject (codes "id"))
-capture_found rows count operation (Some row) fit = inside (intent_in row.item)
+quiet_found : (count most : ℕ) (operation : ℕ → Intent → Outcome) (found : Option Row)
+    → ((object : ℕ) (intent : Intent) → IsQuiet count most (operation object intent)) → IsQuiet count most (made_of_row operation found)
+quiet_found count most operation None quiet = answered (NoSuchObject (codes "id"))
+quiet_found count most operation (Some row) quiet = inside (intent_in row.item)
   where
-    inside : (intent : Option Intent) → IsFit count (and_opened rows (made_of (operation row.object) intent))
+    inside : (intent : Option Intent) → IsQuiet count most (made_of (operation row.object) intent)
     inside None = answered (NoSuchObject (codes "id"))
-    inside (Some intent) = fit row.object intent
+    inside (Some intent) = quiet row.object intent
+
+pub capture_quiet : (rows : List Row) (now place : ℕ) (c : CaptureIntent) → IsQuiet (length rows) 5 (capture_outcome rows platform c (empty_batch (length rows) now place))
+capture_quiet rows now place c =
+    let batch : BatchState = empty_batch (length rows) now place in
+    quiet_found (length rows) 5 (capture_of rows platform c.amount_to_capture batch) (owned_named rows platform kind.Intent c.id)
+    (λ object intent.
+    quiet_allowed (length rows) 5 (λ status. capture_amount rows platform (unwrap_or c.amount_to_capture intent.amount_capturable) batch object intent status)
+    (next_status intent.status step.Capture)
+    (amount_quiet rows (length rows) now place platform (unwrap_or c.amount_to_capture intent.amount_capturable) object intent))
+
+-- with the opening of a dispute
+opened_fit : (rows : List Row) (count most : ℕ) (outcome : Outcome) → IsQuiet count most outcome → most + 4 ≤ 16 → IsFit count (and_opened rows outcome)
+opened_fit rows count most (Refuses error) quiet few = quiet
+opened_fit rows count most (Adds object batch) quiet few =
+    no_attempt_fit count (most + 4) object _ (due_small IsNoAttempt (λ content is. is) rows count most object batch quiet) few
 
 capture_fit : (rows : List Row) (now place : ℕ) (c : CaptureIntent)
     → IsFit (length rows) (and_opened rows (capture_outcome rows platform c (empty_batch (length rows) now place)))
 capture_fit rows now place c =
-    let batch : BatchState = empty_batch (length rows) now place in
-    capture_found rows (length rows) (capture_of rows platform c.amount_to_capture batch) (owned_named rows platform kind.Intent c.id)
-    (λ object intent.
-    capture_allowed rows (length rows) (λ status. capture_amount rows platform (unwrap_or c.amount_to_capture intent.amount_capturable) batch object intent status)
-    (next_status intent.status step.Capture)
-    (amount_fit rows (length rows) now place platform (unwrap_or c.amount_to_capture intent.amount_capturable) object intent))
+    opened_fit rows (length rows) 5 (capture_outcome rows platform c (empty_batch (length rows) now place)) (capture_quiet rows now place c) (omega arith)
 
 -- the refund: itself, its transaction, the charge, and an event
 refund_rows_fit : (count now place object : ℕ) (c : CreateRefund) (row : Row) (charge : Charge) (capture : Capture) (amount : ℕ)

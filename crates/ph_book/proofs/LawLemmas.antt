@@ -100,7 +100,7 @@ live_next places rows grown attempts (Some (Settles flight)) kept next =
     let fewer = live_settled attempts flight kept.one_each next in omega (arith, fewer)
 
 -- the places that are used after an entry that may come
-used_next : (setup : Setup) (past : List Happening) (caller : ℕ) (d : Deed) → AreCounted (length past) (rows_after setup past) (attempts_after past)
+pub used_next : (setup : Setup) (past : List Happening) (caller : ℕ) (d : Deed) → AreCounted (length past) (rows_after setup past) (attempts_after past)
     → EndsOwn (attempts_after past) caller d → is_full_after setup past d ≡ false → used_after past ≤ setup.entries
     → length past + 1 + length (live_of (after_step (attempts_after past) (effect_after setup past (record { caller = caller; deed = d })).step)) ≤ setup.entries
 used_next setup past caller (deed.Call raw) counted own room used =

@@ -5,3 +5,6 @@ pub mod HistoryLemmas
 pub mod EffectLemmas
 pub mod LawLemmas
 pub mod StepLemmas
+pub mod StoreLemmas
+pub mod SoundLemmas
+pub mod MoneyLemmas

@@ -16,7 +16,7 @@ ghost use Rattle.ph_book.specs.Tickets.{HandsOut, Holds, SpendsOwn};
 use crate::acts::{Act, Answer, Deed, Entry};
 use crate::calls::{Called, PLATFORM, called_by};
 use crate::endings::{Ending, parked_row, settled};
-use crate::room::{one_less, push_row, take_room};
+use crate::room::{later, one_less, push_row, take_room};
 use crate::setup::Setup;
 use crate::spares::{Spare, add_spare, take_spare};
 use crate::store::Store;
@@ -306,13 +306,13 @@ impl Book {
         requires caller { caller < 2 ^ 62 }
         requires clock { moment ≤ clock_limit }
         ensures entry { OnOk result (self.new ≡ entered self.old (tick_entry caller moment)) }
-        ensures said { said_to self.old.setup self.old.history (tick_entry caller moment) ≡ Silence }
+        ensures said { OnOk result (said_to self.old.setup self.old.history (tick_entry caller moment) ≡ Silence) }
         ensures unchanged { OnErr result (self.new ≡ self.old) }
         ensures full { IfErr result (λ refused. (refused ≡ Refused.Full) ↔ IsTrue (is_full self.old.setup self.old.history (deed.Tick moment))) }
         ensures room { OnOk result (is_full self.old.setup self.old.history (deed.Tick moment) ≡ false) }
     {
-        let used = self.entries.len() as u64 + self.live as u64;
-        if weights::has_no_place(&self.setup, used) {
+        let taken = self.entries.len() as u64 + self.live as u64;
+        if weights::has_no_place(&self.setup, taken) {
             return Err(Refused::Full);
         }
         match take_room(&mut self.entries, &mut self.store, 0, self.live) {
@@ -323,7 +323,7 @@ impl Book {
             caller,
             deed: Deed::Tick(moment),
         });
-        self.store.advance(self.store.time().max(moment));
+        self.store.advance(later(self.store.time(), moment));
         Ok(())
     }
 

@@ -10,7 +10,7 @@ ghost use Rattle.ph_intents.specs.Attempts.{begun};
 ghost use Rattle.ph_intents.specs.Capture.{capture_outcome};
 ghost use Rattle.ph_book.specs.Calls.{Makes, Shows, and_opened, authenticated, called_at, carried, clock_set, created, is_key, is_platform, read_upshot, retrieved};
 ghost use Rattle.ph_book.specs.Called.{Comes, IsCalled};
-ghost use Rattle.ph_book.specs.History.{added_effect, call_effect};
+ghost use Rattle.ph_book.specs.History.{added_effect, call_effect, shown_effect};
 
 use crate::replies::{doc_reply, error_reply, shown_reply};
 use crate::store::Store;
@@ -251,6 +251,14 @@ fn shown(alloc: Global, store: &Store, object: u64, batch: Batch) -> Result<Call
     }
 }
 
+// A call that shows a document, and leaves this time.
+fn answered(alloc: Global, doc: &Doc, now: u64) -> Result<Called, NoMemory>
+    ensures { (time place caller : ℕ) → IfOk result (λ called. IsCalled time place caller (shown_effect doc.now now) called) }
+{
+    let reply = doc_reply(alloc, doc)?;
+    Ok(Called::Answered(reply, Vec::new(alloc), now))
+}
+
 /// What a request comes to over the rows of a store, as the entry of a place, where this is the key of the setup.
 pub fn called_by(
     alloc: Global,
@@ -264,14 +272,8 @@ pub fn called_by(
     let mut batch = Batch::new(alloc, store.rows().len() as u64, store.time(), place);
     match upshot(alloc, key, store, raw, &mut batch) {
         Ok(Carried::Added(object)) => shown(alloc, store, object, batch),
-        Ok(Carried::Shown(doc)) => {
-            let reply = doc_reply(alloc, &doc)?;
-            Ok(Called::Answered(reply, Vec::new(alloc), store.time()))
-        }
-        Ok(Carried::Set(moment)) => {
-            let reply = doc_reply(alloc, &clock_doc(alloc, moment)?)?;
-            Ok(Called::Answered(reply, Vec::new(alloc), moment))
-        }
+        Ok(Carried::Shown(doc)) => answered(alloc, &doc, store.time()),
+        Ok(Carried::Set(moment)) => answered(alloc, &clock_doc(alloc, moment)?, moment),
         Err(Refusal::Api(error)) => {
             let reply = error_reply(alloc, &error, None)?;
             Ok(Called::Answered(reply, Vec::new(alloc), store.time()))

@@ -30,12 +30,9 @@ pub fn ids_differ(setup: &Setup, _history: &[Entry])
 
 /// What is available of an account in a currency and what is pending are together the sum of amount less fee over its
 /// transactions, whatever the time: moving the clock changes no total.
-pub fn balances_are_sums(setup: &Setup, _history: &[Entry])
-    requires { IsLegal setup.now _history.now }
-    ensures { BalancesAreSums (rows_of setup.now _history.now) }
-{
-    few_entries(setup.entries);
-}
+pub fn balances_are_sums(_setup: &Setup, _history: &[Entry])
+    ensures { BalancesAreSums (rows_of _setup.now _history.now) }
+{}
 
 /// The refunds of a charge never add up to more than what was captured of it.
 pub fn refunds_fit(setup: &Setup, _history: &[Entry])

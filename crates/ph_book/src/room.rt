@@ -1,5 +1,5 @@
 //! Room that is taken before the first change.
-ghost use Rattle.std.specs.Prelude.{◌≡◌, ◌+◌, ◌^◌, ◌<◌, ◌≤◌, ◌++◌, length, vec_capacity, option_to_list, OnOk};
+ghost use Rattle.std.specs.Prelude.{◌≡◌, ◌+◌, ◌^◌, ◌<◌, ◌≤◌, ◌++◌, max, length, vec_capacity, option_to_list, OnOk};
 
 use crate::acts::Entry;
 use crate::store::Store;
@@ -45,4 +45,11 @@ pub fn one_less(live: usize) -> usize
     ensures { result + 1 ≡ live }
 {
     live - 1
+}
+
+/// The later of two moments.
+pub fn later(one: u64, other: u64) -> u64
+    ensures { result ≡ max one other }
+{
+    if one < other { other } else { one }
 }

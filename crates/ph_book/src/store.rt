@@ -1,6 +1,5 @@
 //! The rows of a book, and its ledger.
-ghost use Rattle.std.specs.Prelude.{◌≡◌, ◌+◌, ◌<◌, ◌≤◌, ◌++◌, ◌^◌, length, option_to_list, IfOk, OnOk};
-ghost use Rattle.ph_book.specs.Stores.{store_state};
+ghost use Rattle.std.specs.Prelude.{◌≡◌, ◌+◌, ◌<◌, ◌≤◌, ◌++◌, ◌∷◌, ◌^◌, [], length, IfOk, OnOk};
 
 use ph_base::{Kind, NoMemory};
 use ph_ledger::Ledger;

@@ -4,9 +4,9 @@ use Rattle.ph_http.specs.Replies.{is_status}
 use Rattle.ph_book.specs.declared.acts.Act.{Act}
 use Rattle.ph_book.specs.declared.acts.Answer.TheVariants as answer
 use Rattle.ph_book.specs.Answers.{IsAnswerTo}
-use Rattle.ph_book.specs.Entries.{deed_of, finish_entry, park_entry}
+use Rattle.ph_book.specs.Entries.{deed_of, finish_entry, park_entry, tick_entry}
 use Rattle.ph_book.specs.Legal.{is_full}
-use Rattle.ph_book.proofs.EffectLemmas.{park_status, reply_served, said_to_call, said_to_finish, says_reply, says_served}
+use Rattle.ph_book.proofs.EffectLemmas.{park_status, reply_served, said_to_call, said_to_finish, says_reply, says_served, says_silence}
 use Rattle.ph_book.proofs.HistoryLemmas.{has_room, replies_grow}
 use Rattle.ph_book.proofs.StepLemmas.{finish_room, park_room}
 use Rattle.ph_book.proofs.book.Book.apply.Goals as goal
@@ -56,3 +56,8 @@ returns-in-Park-clause-replies c =
 pub returns-in-Park-clause-room : goal.returns-in-Park-clause-room
 returns-in-Park-clause-room c =
     subst (λ (act : Act). is_full c.args.self.now.setup c.args.self.now.history (deed_of act) ≡ false) (sym c.in-Park.is) (park_room _ _ _ _)
+
+pub returns-in-Ok-tick-clause-replies : goal.returns-in-Ok-tick-clause-replies
+returns-in-Ok-tick-clause-replies c =
+    replies_grow c.args.self.now c.tick.new.self 0 c.args.caller (tick_entry c.args.caller c.in-Tick.moment) answer.Done
+    c.in-Ok-tick.ensures.entry (says_silence 0 c.args.caller _ c.in-Ok-tick.ensures.said)

@@ -1,0 +1,50 @@
+-- The laws of money, of sound rows.
+use Rattle.std.proofs.Common.{◌≡◌, ℕ, ◌≤◌, ◌∷◌, Bool, true, false, cond, nat_le, nat_lt, List, [], Some, refl, sym, ap, ◌∙◌, subst, arith, ℤ, pos, ◌+ℤ◌, ◌≤ℤ◌}
+use Rattle.std.specs.List.{filter}
+use Rattle.std.proofs.lemmas.Bool.Decides.{nat_tests}
+use Rattle.std.proofs.lemmas.Int.{ints}
+use Rattle.ph_rows.specs.declared.movements.Movement.{Movement}
+use Rattle.ph_rows.specs.declared.rows.Row.{Row}
+use Rattle.ph_rows.specs.Balances.{counts, movements_of, net_of}
+use Rattle.ph_rows.specs.Sound.{IsSound}
+use Rattle.ph_rows.specs.Transactions.{captured_of, refunded_of}
+use Rattle.ph_rows.specs.Views.{ViewState}
+use Rattle.ph_book.specs.Laws.{BalancesAreSums, DisputesMoveOnce, RefundsFit}
+
+-- what counts at a time and what doesn't are all
+net_parts : (time : ℕ) (movements : List Movement)
+    → net_of (filter (counts true time) movements) +ℤ net_of (filter (counts false time) movements) ≡ net_of movements
+net_parts time [] = refl
+net_parts time (movement ∷ movements) = at (nat_le movement.available_on time) (nat_lt time movement.available_on) (apart movement.available_on) (net_parts time movements)
+  where
+    apart : (moment : ℕ) → nat_lt time moment ≡ cond (nat_le moment time) false true
+    apart moment = split (nat_le moment time) refl
+      where
+        split : (b : Bool) → nat_le moment time ≡ b → nat_lt time moment ≡ cond b false true
+        split true e = grind (arith, nat_tests)
+        split false e = grind (arith, nat_tests)
+
+    at : (by_now later : Bool) → later ≡ cond by_now false true
+        → net_of (filter (counts true time) movements) +ℤ net_of (filter (counts false time) movements) ≡ net_of movements
+        → net_of (cond by_now (movement ∷ filter (counts true time) movements) (filter (counts true time) movements))
+        +ℤ net_of (cond later (movement ∷ filter (counts false time) movements) (filter (counts false time) movements)) ≡ net_of (movement ∷ movements)
+    at true later e rest = rw e (omega (arith, ints))
+    at false later e rest = rw e (omega (arith, ints))
+
+pub balances_sum : (rows : List Row) → BalancesAreSums rows
+balances_sum rows account currency time = net_parts time (movements_of account currency rows)
+
+pub sound_refunds : (state : ViewState) → IsSound state → RefundsFit state.rows
+sound_refunds state sound object row charge found is =
+    let sums = sound.charges object row charge found is in
+    let captured = sums.captured in
+    let refunded = sums.refunded in
+    let within = sums.within_captured in
+    subst (λ (z : ℤ). pos (refunded_of object state.rows) ≤ℤ z) captured
+    (subst (λ n. pos n ≤ℤ pos charge.amount_captured) refunded (least within))
+  where
+    least : {a b : ℕ} → a ≤ b → pos a ≤ℤ pos b
+    least h = omega (arith, ints)
+
+pub sound_disputes : (state : ViewState) → IsSound state → DisputesMoveOnce state.rows
+sound_disputes state sound = sound.disputes

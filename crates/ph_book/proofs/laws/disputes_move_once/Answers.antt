@@ -1,0 +1,7 @@
+use Rattle.ph_book.specs.History.{view_of}
+use Rattle.ph_book.proofs.MoneyLemmas.{sound_disputes}
+use Rattle.ph_book.proofs.SoundLemmas.{history_sound}
+use Rattle.ph_book.proofs.laws.disputes_move_once.Goals as goal
+
+pub returns : goal.returns
+returns c = sound_disputes (view_of c.args.setup.now c.args._history.now) (history_sound c.args.setup.now c.args._history.now c.few_entries.ensures c.requires)
