@@ -255,7 +255,13 @@ impl Book {
         let live = one_less(self.live);
         let place = self.entries.len() as u64 + 1;
         let attempt = ticket.order().reference;
-        let Ending { reply, rows } = match settled(self.alloc, &self.store, place, attempt, ruling) {
+        let Ending { reply, rows } = match settled(
+            self.alloc,
+            &self.store,
+            place,
+            attempt,
+            ruling,
+        ) {
             Ok(ending) => ending,
             Err(NoMemory) => return Err(ticket),
         };

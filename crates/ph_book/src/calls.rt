@@ -77,7 +77,13 @@ fn is_platform(account: &Option<Bytes>) -> bool
 }
 
 // A retrieve of the object of a kind whose id stands in the path.
-fn retrieve(alloc: Global, store: &Store, kind: Kind, id: &[u8], batch: &Batch) -> Result<u64, Refusal>
+fn retrieve(
+    alloc: Global,
+    store: &Store,
+    kind: Kind,
+    id: &[u8],
+    batch: &Batch,
+) -> Result<u64, Refusal>
     ensures { Gives (retrieved store.now.rows kind id.now batch.now) result batch.now }
 {
     match owned_named(store, PLATFORM, kind, id) {

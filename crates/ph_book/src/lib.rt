@@ -17,8 +17,6 @@ mod weights;
 
 pub use acts::{Act, Answer, Deed, Entry};
 pub use book::Book;
-pub use laws::{
-    balances_are_sums, disputes_move_once, history_is_legal, ids_differ, refunds_fit,
-};
+pub use laws::{balances_are_sums, disputes_move_once, history_is_legal, ids_differ, refunds_fit};
 pub use ph_lock::Refused;
 pub use setup::Setup;

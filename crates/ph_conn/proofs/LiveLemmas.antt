@@ -16,9 +16,9 @@ use Rattle.ph_calls.specs.Outcomes.{Outcome, Refuses, Adds}
 use Rattle.ph_intents.specs.Attempts.{begun}
 use Rattle.ph_book.specs.declared.setup.Setup.{Setup}
 use Rattle.ph_book.specs.declared.acts.Entry.{Entry}
-use Rattle.ph_book.specs.Calls.{called_at}
+use Rattle.ph_book.specs.Calls.{Upshot, Makes, Shows, Sets, called_at}
 use Rattle.ph_book.specs.Entries.{call_entry}
-use Rattle.ph_book.specs.History.{Effect, added_effect, attempts_after, attempts_of, call_effect, effect_after, effect_to, finish_effect, happening_of, park_effect, past_of, rows_after, rows_of, said_to, time_after}
+use Rattle.ph_book.specs.History.{Effect, added_effect, attempts_after, attempts_of, call_effect, effect_after, effect_to, finish_effect, happening_of, outcome_effect, park_effect, past_of, rows_after, rows_of, said_to, time_after}
 use Rattle.ph_book.specs.Replies.{Replies, Waits}
 use Rattle.ph_book.specs.Runs.{after_step, live_of, run_in}
 use Rattle.ph_book.specs.State.{BookState, entered}
@@ -46,20 +46,25 @@ StepSaid place effect =
     ((reply : Reply) → effect.said ≡ Replies reply → effect.step ≡ None)
     × ((order : Order) → effect.said ≡ Waits order → effect.step ≡ Some (Begins (record { caller = 0; run = place; order = order })))
 
-added-said : (rows : List Row) (place object : ℕ) (batch : BatchState) (order : Option Order) → StepSaid place (added_effect rows place 0 object batch order)
-added-said rows place object batch None = (λ reply is. refl, λ order is. absurd (cc))
-added-said rows place object batch (Some order) = (λ reply is. absurd (cc), λ other is. let same : order ≡ other = cc in ap (λ (o : Order). Some (Begins (record { caller = 0; run = place; order = o }))) same)
+added-said : (rows : List Row) (now place object : ℕ) (batch : BatchState) (order : Option Order) → StepSaid place (added_effect rows now place 0 object batch order)
+added-said rows now place object batch None = (λ reply is. refl, λ order is. absurd (cc))
+added-said rows now place object batch (Some order) = (λ reply is. absurd (cc), λ other is. let same : order ≡ other = cc in ap (λ (o : Order). Some (Begins (record { caller = 0; run = place; order = o }))) same)
 
-call-said : (rows : List Row) (place : ℕ) (outcome : Outcome) → StepSaid place (call_effect rows place 0 outcome)
-call-said rows place (Refuses error) = (λ reply is. refl, λ order is. absurd (cc))
-call-said rows place (Adds object batch) = added-said rows place object batch (begun batch)
+outcome-said : (rows : List Row) (now place : ℕ) (outcome : Outcome) → StepSaid place (outcome_effect rows now place 0 outcome)
+outcome-said rows now place (Refuses error) = (λ reply is. refl, λ order is. absurd (cc))
+outcome-said rows now place (Adds object batch) = added-said rows now place object batch (begun batch)
+
+call-said : (rows : List Row) (now place : ℕ) (upshot : Upshot) → StepSaid place (call_effect rows now place 0 upshot)
+call-said rows now place (Makes outcome) = outcome-said rows now place outcome
+call-said rows now place (Shows doc) = (λ reply is. refl, λ order is. absurd (cc))
+call-said rows now place (Sets moment) = (λ reply is. refl, λ order is. absurd (cc))
 
 effect-said : (setup : Setup) (history : List Entry) (raw : Raw) → StepSaid (length history + 1) (effect_to setup history (call_entry 0 raw))
 unfolding effect_to
 effect-said setup history raw =
     let past = past_of setup history in
     subst (λ n. StepSaid (n + 1) (effect_after setup past (call_entry 0 raw))) (length_past setup history)
-    (call-said (rows_after setup past) (length past + 1) (called_at setup.key (rows_after setup past) (time_after setup past) (length past + 1) raw))
+    (call-said (rows_after setup past) (time_after setup past) (length past + 1) (called_at setup.key (rows_after setup past) (time_after setup past) (length past + 1) raw))
 
 -- a call that is answered leaves the live runs as they are
 pub live-replied : (old new : BookState) (raw : Raw) (reply : Reply) → new ≡ entered old (call_entry 0 raw)

@@ -1,14 +1,12 @@
 -- Evidence and closes may be entered.
 use Rattle.std.specs.Prelude.{◌||◌}
-use Rattle.std.proofs.Common.{◌≡◌, ℕ, ◌+◌, ◌^◌, ◌≤◌, ◌<◌, Bool, true, false, cond, List, [], ◌∷◌, ◌++◌, Option, None, Some, length, refl, sym, ap, ◌∙◌, subst, arith}
+use Rattle.std.proofs.Common.{◌≡◌, ℕ, ◌+◌, ◌^◌, ◌≤◌, ◌<◌, Bool, true, false, cond, List, [], ◌∷◌, ◌++◌, Option, Some, length, refl, sym, ap, ◌∙◌, subst, arith}
 use Rattle.std.specs.List.{list_all, list_any}
 use Rattle.std.specs.Str.{is_utf8}
 use Rattle.std.proofs.lemmas.Bool.{cond_both, eq-eqb, false≢true, ne_eqb}
 use Rattle.std.proofs.lemmas.List.{append-nil, length-append}
-use Rattle.ph_calls.specs.declared.call.CloseDispute.{CloseDispute}
-use Rattle.ph_calls.specs.declared.call.SendEvidence.{SendEvidence}
-use Rattle.ph_calls.specs.Keeps.{AddsSound, AreUtf8, IsReady, KeepsSound, batch_after, no_texts}
-use Rattle.ph_calls.specs.Outcomes.{Outcome, Refuses, Adds}
+use Rattle.ph_calls.specs.Keeps.{AddsSound, IsReady, KeepsSound, batch_after, no_texts}
+use Rattle.ph_calls.specs.Outcomes.{Refuses, Adds}
 use Rattle.ph_errors.specs.Table.{error_of, DisputeClosed}
 use Rattle.ph_rows.specs.declared.rows.Row.{Row}
 use Rattle.ph_rows.specs.declared.disputes.Dispute.{Dispute}
@@ -21,15 +19,15 @@ use Rattle.ph_rows.specs.Batches.{BatchState, last_place, next_row}
 use Rattle.ph_rows.specs.Entering.{IsToldBy, MayBeEntered}
 use Rattle.ph_rows.specs.Kinds.{kind_of}
 use Rattle.ph_rows.specs.Origins.{HasOrigin}
-use Rattle.ph_rows.specs.Rows.{row_at, latest_of}
-use Rattle.ph_rows.specs.Sound.{AllMayFollow, AreHeld, HaveMoves, HaveSums, IsInOrder, IsSound, MayFollow, with_next}
+use Rattle.ph_rows.specs.Rows.{latest_of}
+use Rattle.ph_rows.specs.Sound.{AllMayFollow, IsInOrder, MayFollow, with_next}
 use Rattle.ph_rows.specs.Transactions.{given_move, moves_in, moves_of, taken_move}
 use Rattle.ph_rows.specs.Views.{ViewState}
 use Rattle.ph_rows.specs.Weights.{texts_of}
 use Rattle.ph_rows.proofs.AmountLemmas.{latest_of-last, sums_beside}
 use Rattle.ph_rows.proofs.FollowLemmas.{first_follows, further_follows, origin_stands}
 use Rattle.ph_rows.proofs.HeldLemmas.{held_beside, is_version, latest_of-apart}
-use Rattle.ph_rows.proofs.MoveLemmas.{concerns, moves_of_version}
+use Rattle.ph_rows.proofs.MoveLemmas.{moves_of_version}
 use Rattle.ph_rows.proofs.SoundLemmas.{order_with, order_with_all, row_at-before, row_at_within}
 use Rattle.ph_disputes.specs.Answers.{answered_dispute, evidence_of, evidence_outcome, given_txn, verdict_on, with_evidence, with_verdict}
 use Rattle.ph_disputes.specs.Closing.{close_of, close_outcome, lost_dispute, with_closed, with_version}

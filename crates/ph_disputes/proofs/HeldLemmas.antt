@@ -5,12 +5,11 @@ use Rattle.std.proofs.lemmas.Bool.{eqb-true}
 use Rattle.std.proofs.lemmas.List.Sums.{fold_push}
 use Rattle.ph_rows.specs.declared.rows.Row.{Row}
 use Rattle.ph_rows.specs.declared.charges.Charge.{Charge}
-use Rattle.ph_rows.specs.declared.intents.Intent.{Intent}
 use Rattle.ph_rows.specs.declared.items.Item.{Item}
 use Rattle.ph_rows.specs.declared.items.Item.TheVariants as item
 use Rattle.ph_rows.specs.Items.{charge_in}
 use Rattle.ph_rows.specs.Rows.{later_version, latest_of}
-use Rattle.ph_rows.specs.Sound.{AreHeld, Holds, IsHeldBy, charge_of}
+use Rattle.ph_rows.specs.Sound.{AreHeld, IsHeldBy, charge_of}
 use Rattle.ph_rows.proofs.SoundLemmas.{picked}
 
 -- a version of a charge holds what the version before held: it is of the same payment intent, and as much was authorised

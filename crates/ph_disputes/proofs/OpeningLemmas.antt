@@ -10,7 +10,6 @@ use Rattle.std.proofs.lemmas.List.{append_assoc, length-append}
 use Rattle.ph_rows.specs.declared.rows.Row.{Row}
 use Rattle.ph_rows.specs.declared.batches.Announced.{Announced}
 use Rattle.ph_rows.specs.declared.charges.Charge.{Charge}
-use Rattle.ph_rows.specs.declared.disputes.Dispute.{Dispute}
 use Rattle.ph_rows.specs.declared.event_kinds.EventKind.TheVariants as event
 use Rattle.ph_rows.specs.declared.items.Item.{Item}
 use Rattle.ph_rows.specs.declared.items.Item.TheVariants as item
@@ -28,7 +27,7 @@ use Rattle.ph_rows.proofs.AmountLemmas.{KeepsAmounts, kept_sums, latest_of-last}
 use Rattle.ph_rows.proofs.EnterLemmas.{told_with}
 use Rattle.ph_rows.proofs.FollowLemmas.{first_follows, follow_both, further_follows, origin_stands}
 use Rattle.ph_rows.proofs.HeldLemmas.{held_beside, is_version, latest_from, latest_of-apart}
-use Rattle.ph_rows.proofs.MoveLemmas.{concerns, moves_of-later, moves_of_version}
+use Rattle.ph_rows.proofs.MoveLemmas.{moves_of-later, moves_of_version}
 use Rattle.ph_rows.proofs.SoundLemmas.{latest_of_sound, order_with, order_with_all, row_at-before, row_at-next, row_at_within}
 use Rattle.ph_disputes.specs.Due.{due_charge, open_due_of, opening_due}
 use Rattle.ph_disputes.specs.Laws.{OpeningKeepsSound}

@@ -6,8 +6,6 @@ use Rattle.ph_rows.specs.Batches.{BatchState}
 use Rattle.ph_rows.specs.Entering.{MayBeEntered}
 use Rattle.ph_rows.specs.Sound.{IsSound}
 use Rattle.ph_rows.specs.Views.{ViewState}
-use Rattle.ph_disputes.specs.Due.{open_due_of}
-use Rattle.ph_disputes.specs.Opening.{open_of}
 
 -- the texts of a call that its dispute keeps
 abbrev pub evidence_texts : SendEvidence → List (List ℕ)

@@ -10,8 +10,7 @@ use ph_calls::SendEvidence;
 use ph_errors::{ApiError, Refusal};
 use ph_money::SignedAmount;
 use ph_rows::{
-    Batch, Dispute, DisputeStatus, EventKind, Item, Row, Txn, TxnSource, TxnType, View,
-    owned_named,
+    Batch, Dispute, DisputeStatus, EventKind, Item, Row, Txn, TxnSource, TxnType, View, owned_named,
 };
 use std::alloc::Global;
 

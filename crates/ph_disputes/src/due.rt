@@ -38,9 +38,7 @@ fn is_disputed_by(method: &Option<PaymentMethod>) -> bool
 fn is_due(charge: &Charge) -> bool
     ensures { result ≡ is_due charge.now }
 {
-    charge.capture.is_some()
-        && is_disputed_by(&charge.payment_method)
-        && !charge.dispute.is_some()
+    charge.capture.is_some() && is_disputed_by(&charge.payment_method) && !charge.dispute.is_some()
 }
 
 // The number of the latest charge of a payment intent, where the batch has versions of both and a dispute of the

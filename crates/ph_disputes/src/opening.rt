@@ -52,12 +52,7 @@ fn disputed_charge(alloc: Global, number: u64, charge: &Charge) -> Result<Charge
 }
 
 // Adds the transaction that takes the amount of the dispute of a number.
-fn add_taken(
-    account: u64,
-    number: u64,
-    charge: &Charge,
-    batch: &mut Batch,
-) -> Result<(), NoMemory>
+fn add_taken(account: u64, number: u64, charge: &Charge, batch: &mut Batch) -> Result<(), NoMemory>
     ensures { OnOk result (batch.new ≡ with_taken account number charge.now batch.old) }
 {
     let txn = taken_txn(number, charge, batch.at());

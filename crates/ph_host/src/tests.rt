@@ -1,6 +1,7 @@
 //! Whole runs: words, the input's bytes, the output's bytes and the status.
 
 mod acquirer;
+mod money;
 
 use crate::{Plan, plan, run_once};
 use ph_bank::{SimAcquirer, Turns};

@@ -86,9 +86,10 @@ captured_enters state entry account row intent n last charge amount found ready 
     known = ap (option_and_then (λ (r : Row). charge_in r.item)) latest ∙ ap charge_in is
 
     leave : (other : ℕ) → (other ≡ row.object → ⊥) → AllLeave state.rows other (captured.rows ++ version ∷ [])
-    leave other differs =
-        (another_is_apart state.rows other n charge (ready.sound.held other) known (λ same. differs (sym same ∙ holds.intent)),
-        (tt, (λ same. differs (sym same), tt)))
+    leave other differs = (
+      another_is_apart state.rows other n charge (ready.sound.held other) known (λ same. differs (sym same ∙ holds.intent)),
+      (tt, (λ same. differs (sym same), tt)),
+    )
 
 pub capture_keeps : KeepsSound no_texts capture_outcome
 capture_keeps state entry account call ready texts =

@@ -103,9 +103,9 @@ charge_stays state more number charge order follow none found =
     let begun = latest_begun state number last.row order last.latest in
     let still = begun_before state.rows more last.row begun.0 in
     let apart = each_both (λ new. HasBegun (row_at new.object (state.rows ++ more)) new) (λ new. kind_of new.item ≡ kind.Charge → ⊥)
-        (λ new. new.object ≡ number → ⊥)
-        (λ new h no_charge same. no_charge (one_kind (state.rows ++ more) new last.row h still (same ∙ sym begun.1) ∙ ap kind_of last.is))
-        more (each_begun state more follow) none in
+    (λ new. new.object ≡ number → ⊥)
+    (λ new h no_charge same. no_charge (one_kind (state.rows ++ more) new last.row h still (same ∙ sym begun.1) ∙ ap kind_of last.is))
+    more (each_begun state more follow) none in
     ap (option_and_then (λ (r : Row). charge_in r.item)) (latest_of-apart number state.rows more (none_version number more apart)) ∙ found
 
 -- what a payment intent waits to capture stays held by its latest charge with such rows

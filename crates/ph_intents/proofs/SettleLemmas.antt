@@ -196,8 +196,8 @@ settled_enters state entry how row intent_row attempt intent ready stood there =
     approved capture_method.Manual e =
         let new = with_latest_charge (Some number) (approved_intent capture_method.Manual intent) in
         let known = ap (option_and_then (λ (r : Row). charge_in r.item))
-            (other_version state.rows held number object account (item.Intent new) apart
-            ∙ last_version state.rows (before ruling.Approved) number account (item.Charge charge)) in
+        (other_version state.rows held number object account (item.Intent new) apart
+        ∙ last_version state.rows (before ruling.Approved) number account (item.Charge charge)) in
         ruled_enters state intent_row intent new event.IntentAmountCapturableUpdated held ready there
         (record {
           underway = underway_by capture_method.Manual e;

@@ -181,6 +181,13 @@ pub fn settle<V: View>(
     };
     let settled = Item::Attempt(settled_attempt(ruling, *attempt));
     batch.change(row.object, row.account, settled)?;
-    rule(alloc, ruling, intent_row.account, intent_row.object, intent, batch)?;
+    rule(
+        alloc,
+        ruling,
+        intent_row.account,
+        intent_row.object,
+        intent,
+        batch,
+    )?;
     Ok(intent_row.object)
 }

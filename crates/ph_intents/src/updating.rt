@@ -6,9 +6,7 @@ ghost use Rattle.ph_intents.specs.Update.{step_by, step_of, update_of, update_ou
 
 use crate::copies::{copy_method_or, copy_text_or};
 use crate::metadata::merged_metadata;
-use crate::refusals::{
-    amount_too_small, invalid_value, no_such_intent, unexpected_state,
-};
+use crate::refusals::{amount_too_small, invalid_value, no_such_intent, unexpected_state};
 use crate::statuses::{Step, next_status};
 use crate::versions::add_version;
 use ph_base::{Kind, NoMemory};

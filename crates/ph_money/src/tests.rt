@@ -1,4 +1,14 @@
 use super::{Amount, Currency, SignedAmount, fee, part};
+use std::process::Abort;
+
+// An amount in a currency has this fee.
+fn has_fee(rt: &impl Abort, currency: Currency, units: u64, expected: u64) {
+    if let Some(amount) = Amount::try_new(units) {
+        assert_eq!(rt; fee(currency, amount), expected);
+    } else {
+        assert!(rt; false, "an amount of {units}");
+    }
+}
 
 /// The fees that payhost's worked examples name.
 #[test]
@@ -16,10 +26,34 @@ fn fees_of_the_examples(rt: HostRuntime) {
         (Currency::Jpy, 99999999, 3600000),
     ];
     for (currency, units, expected) in examples {
-        if let Some(amount) = Amount::try_new(units) {
-            assert_eq!(rt; fee(currency, amount), expected);
-        } else {
-            assert!(rt; false, "an amount of {units}");
+        has_fee(&rt, currency, units, expected);
+    }
+}
+
+/// Each currency: the fee of 1, of its least amount, of the least amount whose rate ends in a half, and of the most.
+#[test]
+fn fees_of_each_currency(rt: HostRuntime) {
+    let fees = [
+        (
+            Currency::Eur,
+            [(1, 25), (50, 26), (100, 27), (99999999, 1500025)],
+        ),
+        (
+            Currency::Gbp,
+            [(1, 20), (30, 20), (100, 22), (99999999, 1500020)],
+        ),
+        (
+            Currency::Jpy,
+            [(1, 0), (50, 2), (125, 5), (99999999, 3600000)],
+        ),
+        (
+            Currency::Usd,
+            [(1, 30), (50, 31), (500, 45), (99999999, 2900030)],
+        ),
+    ];
+    for (currency, amounts) in fees {
+        for (units, expected) in amounts {
+            has_fee(&rt, currency, units, expected);
         }
     }
 }

@@ -30,7 +30,8 @@ fn is_full(
 ) {
     match raw {
         Ok(raw) => match book.apply(0, Act::Call(raw)) {
-            Err((Act::Call(raw), refused)) => {
+            Err((act, refused)) => {
+                let Act::Call(raw) = act else { unreachable!() };
                 assert_eq!(rt; refused, Refused::Full);
                 assert!(rt; !raw.close);
                 assert_eq!(rt; book.history().len(), entries);
@@ -42,7 +43,6 @@ fn is_full(
                 park(book, ticket, Why::Pending);
                 assert!(rt; false);
             }
-            Err(_) => unreachable!(),
         },
         Err(NoMemory) => assert!(rt; false),
     }

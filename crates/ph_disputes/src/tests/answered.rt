@@ -28,7 +28,10 @@ fn is_version(
     let row = row(view, place)?;
     assert_eq!(rt; (row.place, row.object, row.account), (place, 6, 1));
     let dispute = row.item.dispute().ok_or("no dispute")?;
-    assert_eq!(rt; (dispute.charge, dispute.intent, dispute.status), (3, 2, status));
+    assert_eq!(rt;
+        (dispute.charge, dispute.intent, dispute.status),
+        (3, 2, status)
+    );
     assert_eq!(rt; dispute.amount.units(), 2000);
     let kept = match &dispute.evidence {
         Some(kept) => Some(kept.as_slice()),
@@ -56,11 +59,20 @@ fn won(rt: HostRuntime) -> Result<(), Fail> {
     view.set_time(NOW + 60);
     assert!(rt; send(alloc, &mut view, DISPUTE, b"winning_evidence")? == Ok(6));
     assert_eq!(rt; view.rows().len(), 13);
-    is_version(&rt, &view, 11, DisputeStatus::Won, Some(b"winning_evidence"))?;
+    is_version(
+        &rt,
+        &view,
+        11,
+        DisputeStatus::Won,
+        Some(b"winning_evidence"),
+    )?;
     let moved = row(&view, 12)?;
     assert_eq!(rt; (moved.object, moved.account), (12, 1));
     let txn = moved.item.txn().ok_or("no transaction")?;
-    assert_eq!(rt; (txn.sort, txn.source), (TxnType::Adjustment, TxnSource::Dispute(6)));
+    assert_eq!(rt;
+        (txn.sort, txn.source),
+        (TxnType::Adjustment, TxnSource::Dispute(6))
+    );
     assert_eq!(rt; (txn.amount.units(), txn.fee.units()), (2000, 0));
     assert_eq!(rt; (txn.currency, txn.available_on), (Currency::Usd, NOW + 60));
     assert_eq!(rt; told(row(&view, 13)?), Some((EventKind::DisputeClosed, 6)));
@@ -76,7 +88,13 @@ fn lost(rt: HostRuntime) -> Result<(), Fail> {
     let mut view = disputed(alloc)?;
     assert!(rt; send(alloc, &mut view, DISPUTE, b"losing_evidence")? == Ok(6));
     assert_eq!(rt; view.rows().len(), 12);
-    is_version(&rt, &view, 11, DisputeStatus::Lost, Some(b"losing_evidence"))?;
+    is_version(
+        &rt,
+        &view,
+        11,
+        DisputeStatus::Lost,
+        Some(b"losing_evidence"),
+    )?;
     assert_eq!(rt; told(row(&view, 12)?), Some((EventKind::DisputeClosed, 6)));
     assert_eq!(rt; view.available(1, Currency::Usd), -3500);
     stays_closed(&rt, alloc, &mut view)?;
@@ -90,11 +108,23 @@ fn under_review(rt: HostRuntime) -> Result<(), Fail> {
     let mut view = disputed(alloc)?;
     assert!(rt; send(alloc, &mut view, DISPUTE, b"Winning_evidence")? == Ok(6));
     assert_eq!(rt; view.rows().len(), 11);
-    is_version(&rt, &view, 11, DisputeStatus::UnderReview, Some(b"Winning_evidence"))?;
+    is_version(
+        &rt,
+        &view,
+        11,
+        DisputeStatus::UnderReview,
+        Some(b"Winning_evidence"),
+    )?;
     assert!(rt; send(alloc, &mut view, DISPUTE, b"")? == Ok(6));
     is_version(&rt, &view, 12, DisputeStatus::UnderReview, Some(b""))?;
     assert!(rt; send(alloc, &mut view, DISPUTE, b"winning_evidence")? == Ok(6));
-    is_version(&rt, &view, 13, DisputeStatus::Won, Some(b"winning_evidence"))?;
+    is_version(
+        &rt,
+        &view,
+        13,
+        DisputeStatus::Won,
+        Some(b"winning_evidence"),
+    )?;
     assert_eq!(rt; view.available(1, Currency::Usd), -1500);
     Ok(())
 }

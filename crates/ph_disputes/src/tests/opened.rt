@@ -24,19 +24,31 @@ fn a_payment_that_is_disputed(rt: HostRuntime) -> Result<(), Fail> {
     let dispute = opened.item.dispute().ok_or("no dispute")?;
     assert_eq!(rt; (dispute.charge, dispute.intent), (3, 2));
     assert_eq!(rt; dispute.amount.units(), 2000);
-    assert_eq!(rt; (dispute.currency, dispute.status), (Currency::Usd, DisputeStatus::NeedsResponse));
+    assert_eq!(rt;
+        (dispute.currency, dispute.status),
+        (Currency::Usd, DisputeStatus::NeedsResponse)
+    );
     assert!(rt; dispute.evidence.is_none());
     let moved = row(&view, 7)?;
     assert_eq!(rt; (moved.object, moved.account), (7, 1));
     let txn = moved.item.txn().ok_or("no transaction")?;
-    assert_eq!(rt; (txn.sort, txn.source), (TxnType::Adjustment, TxnSource::Dispute(6)));
+    assert_eq!(rt;
+        (txn.sort, txn.source),
+        (TxnType::Adjustment, TxnSource::Dispute(6))
+    );
     assert_eq!(rt; (txn.amount.units(), txn.fee.units()), (-2000, 1500));
     assert_eq!(rt; (txn.currency, txn.available_on), (Currency::Usd, NOW));
     let kept = row(&view, 8)?;
     assert_eq!(rt; (kept.object, kept.account), (3, 1));
     let charge = kept.item.charge().ok_or("no charge")?;
     assert_eq!(rt; charge.dispute, Some(6));
-    assert_eq!(rt; (charge.amount_captured.units(), charge.amount_refunded.units()), (2000, 0));
+    assert_eq!(rt;
+        (
+            charge.amount_captured.units(),
+            charge.amount_refunded.units()
+        ),
+        (2000, 0)
+    );
     assert_eq!(rt; told(row(&view, 9)?), Some((EventKind::ChargeSucceeded, 3)));
     assert_eq!(rt; told(row(&view, 10)?), Some((EventKind::DisputeCreated, 6)));
     assert_eq!(rt; view.available(1, Currency::Usd), -3500);
@@ -82,11 +94,7 @@ fn held(alloc: Global, item: Item, latest: Option<u64>) -> Result<Batch, Fail> {
 fn nothing_due(rt: HostRuntime) -> Result<(), Fail> {
     let alloc = rt.alloc();
     let view = begun(alloc)?;
-    let mut batch = held(
-        alloc,
-        charge(alloc, Method::Dispute, None, None)?,
-        Some(3),
-    )?;
+    let mut batch = held(alloc, charge(alloc, Method::Dispute, None, None)?, Some(3))?;
     open_due(alloc, &view, 2, &mut batch)?;
     assert_eq!(rt; batch.count(), 4);
     let disputed = charge(alloc, Method::Dispute, Some(capture(5)), Some(1))?;

@@ -1,9 +1,7 @@
 // Sessions whose calls wait for the simulated acquirer.
 
-use super::{joined, run};
+use super::{RETRIEVE, STDIO, joined, run};
 use std::test::Fail;
-
-const STDIO: &[&[u8]] = &[b"stdio"];
 
 const CREATE_TO_CAPTURE: &[u8] =
     b"POST /v1/payment_intents HTTP/1.1\r\nHost: localhost\r\nAuthorization: Bearer sk_test_payhost\r\nContent-Length: 97\r\n\r\namount=2000&currency=usd&capture_method=manual&payment_method=pm_card_chargeDeclined&confirm=true";
@@ -17,14 +15,11 @@ const AUTHENTICATE: &[u8] =
 const UPDATE: &[u8] =
     b"POST /v1/payment_intents/pi_0000000000000002 HTTP/1.1\r\nHost: localhost\r\nAuthorization: Bearer sk_test_payhost\r\nContent-Length: 17\r\n\r\nmetadata[order]=7";
 
-const CAPTURE: &[u8] =
+pub const CAPTURE: &[u8] =
     b"POST /v1/payment_intents/pi_0000000000000002/capture HTTP/1.1\r\nHost: localhost\r\nAuthorization: Bearer sk_test_payhost\r\nContent-Length: 22\r\n\r\namount_to_capture=1500";
 
 const CANCEL: &[u8] =
     b"POST /v1/payment_intents/pi_0000000000000002/cancel HTTP/1.1\r\nHost: localhost\r\nAuthorization: Bearer sk_test_payhost\r\nContent-Length: 0\r\n\r\n";
-
-const RETRIEVE: &[u8] =
-    b"GET /v1/payment_intents/pi_0000000000000002 HTTP/1.1\r\nHost: localhost\r\nAuthorization: Bearer sk_test_payhost\r\n\r\n";
 
 const CREATE_SLOW: &[u8] =
     b"POST /v1/payment_intents HTTP/1.1\r\nHost: localhost\r\nAuthorization: Bearer sk_test_payhost\r\nContent-Length: 70\r\n\r\namount=2000&currency=usd&payment_method=pm_payhost_slow_3&confirm=true";
@@ -32,7 +27,7 @@ const CREATE_SLOW: &[u8] =
 const CREATE_LOST: &[u8] =
     b"POST /v1/payment_intents HTTP/1.1\r\nHost: localhost\r\nAuthorization: Bearer sk_test_payhost\r\nContent-Length: 68\r\n\r\namount=2000&currency=usd&payment_method=pm_payhost_lost&confirm=true";
 
-const CONFIRM_VISA: &[u8] =
+pub const CONFIRM_VISA: &[u8] =
     b"POST /v1/payment_intents/pi_0000000000000002/confirm HTTP/1.1\r\nHost: localhost\r\nAuthorization: Bearer sk_test_payhost\r\nContent-Length: 27\r\n\r\npayment_method=pm_card_visa";
 
 const CREATE_CHALLENGED: &[u8] =
@@ -41,25 +36,22 @@ const CREATE_CHALLENGED: &[u8] =
 const FAIL_TO_AUTHENTICATE: &[u8] =
     b"POST /_host/payment_intents/pi_0000000000000002/authenticate HTTP/1.1\r\nHost: localhost\r\nAuthorization: Bearer sk_test_payhost\r\nContent-Length: 14\r\n\r\noutcome=failed";
 
-const CREATE_DECLINED: &[u8] =
-    b"POST /v1/payment_intents HTTP/1.1\r\nHost: localhost\r\nAuthorization: Bearer sk_test_payhost\r\nContent-Length: 75\r\n\r\namount=2000&currency=usd&payment_method=pm_card_chargeDeclined&confirm=true";
-
 const DECLINED_TO_CAPTURE: &[u8] =
-    b"HTTP/1.1 402 Payment Required\r\nContent-Type: application/json\r\nContent-Length: 750\r\n\r\n{\"error\":{\"code\":\"card_declined\",\"decline_code\":\"generic_decline\",\"message\":\"Your card was declined.\",\"payment_intent\":{\"amount\":2000,\"amount_capturable\":0,\"amount_received\":0,\"application_fee_amount\":null,\"cancellation_reason\":null,\"capture_method\":\"manual\",\"client_secret\":\"pi_0000000000000002_secret_payhost\",\"created\":1700000000,\"currency\":\"usd\",\"description\":null,\"id\":\"pi_0000000000000002\",\"last_payment_error\":{\"code\":\"card_declined\",\"decline_code\":\"generic_decline\",\"message\":\"Your card was declined.\",\"type\":\"card_error\"},\"latest_charge\":null,\"livemode\":false,\"metadata\":{},\"next_action\":null,\"object\":\"payment_intent\",\"payment_method\":null,\"status\":\"requires_payment_method\",\"transfer_data\":null,\"transfer_group\":null},\"type\":\"card_error\"}}";
+    b"HTTP/1.1 402 Payment Required\r\nContent-Type: application/json\r\nContent-Length: 767\r\n\r\n{\"error\":{\"code\":\"card_declined\",\"decline_code\":\"generic_decline\",\"message\":\"Your card was declined.\",\"payment_intent\":{\"amount\":2000,\"amount_capturable\":0,\"amount_received\":0,\"application_fee_amount\":null,\"cancellation_reason\":null,\"capture_method\":\"manual\",\"client_secret\":\"pi_0000000000000002_secret_payhost\",\"created\":1700000000,\"currency\":\"usd\",\"description\":null,\"id\":\"pi_0000000000000002\",\"last_payment_error\":{\"code\":\"card_declined\",\"decline_code\":\"generic_decline\",\"message\":\"Your card was declined.\",\"type\":\"card_error\"},\"latest_charge\":\"ch_0000000000000006\",\"livemode\":false,\"metadata\":{},\"next_action\":null,\"object\":\"payment_intent\",\"payment_method\":null,\"status\":\"requires_payment_method\",\"transfer_data\":null,\"transfer_group\":null},\"type\":\"card_error\"}}";
 
 const CHALLENGED: &[u8] =
-    b"HTTP/1.1 200 OK\r\nContent-Type: application/json\r\nContent-Length: 547\r\n\r\n{\"amount\":2000,\"amount_capturable\":0,\"amount_received\":0,\"application_fee_amount\":null,\"cancellation_reason\":null,\"capture_method\":\"manual\",\"client_secret\":\"pi_0000000000000002_secret_payhost\",\"created\":1700000000,\"currency\":\"usd\",\"description\":null,\"id\":\"pi_0000000000000002\",\"last_payment_error\":null,\"latest_charge\":null,\"livemode\":false,\"metadata\":{},\"next_action\":{\"type\":\"payhost_authenticate\"},\"object\":\"payment_intent\",\"payment_method\":\"pm_card_authenticationRequired\",\"status\":\"requires_action\",\"transfer_data\":null,\"transfer_group\":null}";
+    b"HTTP/1.1 200 OK\r\nContent-Type: application/json\r\nContent-Length: 564\r\n\r\n{\"amount\":2000,\"amount_capturable\":0,\"amount_received\":0,\"application_fee_amount\":null,\"cancellation_reason\":null,\"capture_method\":\"manual\",\"client_secret\":\"pi_0000000000000002_secret_payhost\",\"created\":1700000000,\"currency\":\"usd\",\"description\":null,\"id\":\"pi_0000000000000002\",\"last_payment_error\":null,\"latest_charge\":\"ch_0000000000000006\",\"livemode\":false,\"metadata\":{},\"next_action\":{\"type\":\"payhost_authenticate\"},\"object\":\"payment_intent\",\"payment_method\":\"pm_card_authenticationRequired\",\"status\":\"requires_action\",\"transfer_data\":null,\"transfer_group\":null}";
 
 const AUTHENTICATED: &[u8] =
-    b"HTTP/1.1 200 OK\r\nContent-Type: application/json\r\nContent-Length: 524\r\n\r\n{\"amount\":2000,\"amount_capturable\":2000,\"amount_received\":0,\"application_fee_amount\":null,\"cancellation_reason\":null,\"capture_method\":\"manual\",\"client_secret\":\"pi_0000000000000002_secret_payhost\",\"created\":1700000000,\"currency\":\"usd\",\"description\":null,\"id\":\"pi_0000000000000002\",\"last_payment_error\":null,\"latest_charge\":null,\"livemode\":false,\"metadata\":{},\"next_action\":null,\"object\":\"payment_intent\",\"payment_method\":\"pm_card_authenticationRequired\",\"status\":\"requires_capture\",\"transfer_data\":null,\"transfer_group\":null}";
+    b"HTTP/1.1 200 OK\r\nContent-Type: application/json\r\nContent-Length: 541\r\n\r\n{\"amount\":2000,\"amount_capturable\":2000,\"amount_received\":0,\"application_fee_amount\":null,\"cancellation_reason\":null,\"capture_method\":\"manual\",\"client_secret\":\"pi_0000000000000002_secret_payhost\",\"created\":1700000000,\"currency\":\"usd\",\"description\":null,\"id\":\"pi_0000000000000002\",\"last_payment_error\":null,\"latest_charge\":\"ch_0000000000000018\",\"livemode\":false,\"metadata\":{},\"next_action\":null,\"object\":\"payment_intent\",\"payment_method\":\"pm_card_authenticationRequired\",\"status\":\"requires_capture\",\"transfer_data\":null,\"transfer_group\":null}";
 
 const UPDATED: &[u8] =
-    b"HTTP/1.1 200 OK\r\nContent-Type: application/json\r\nContent-Length: 535\r\n\r\n{\"amount\":2000,\"amount_capturable\":2000,\"amount_received\":0,\"application_fee_amount\":null,\"cancellation_reason\":null,\"capture_method\":\"manual\",\"client_secret\":\"pi_0000000000000002_secret_payhost\",\"created\":1700000000,\"currency\":\"usd\",\"description\":null,\"id\":\"pi_0000000000000002\",\"last_payment_error\":null,\"latest_charge\":null,\"livemode\":false,\"metadata\":{\"order\":\"7\"},\"next_action\":null,\"object\":\"payment_intent\",\"payment_method\":\"pm_card_authenticationRequired\",\"status\":\"requires_capture\",\"transfer_data\":null,\"transfer_group\":null}";
+    b"HTTP/1.1 200 OK\r\nContent-Type: application/json\r\nContent-Length: 552\r\n\r\n{\"amount\":2000,\"amount_capturable\":2000,\"amount_received\":0,\"application_fee_amount\":null,\"cancellation_reason\":null,\"capture_method\":\"manual\",\"client_secret\":\"pi_0000000000000002_secret_payhost\",\"created\":1700000000,\"currency\":\"usd\",\"description\":null,\"id\":\"pi_0000000000000002\",\"last_payment_error\":null,\"latest_charge\":\"ch_0000000000000018\",\"livemode\":false,\"metadata\":{\"order\":\"7\"},\"next_action\":null,\"object\":\"payment_intent\",\"payment_method\":\"pm_card_authenticationRequired\",\"status\":\"requires_capture\",\"transfer_data\":null,\"transfer_group\":null}";
 
 const CAPTURED: &[u8] =
-    b"HTTP/1.1 200 OK\r\nContent-Type: application/json\r\nContent-Length: 528\r\n\r\n{\"amount\":2000,\"amount_capturable\":0,\"amount_received\":1500,\"application_fee_amount\":null,\"cancellation_reason\":null,\"capture_method\":\"manual\",\"client_secret\":\"pi_0000000000000002_secret_payhost\",\"created\":1700000000,\"currency\":\"usd\",\"description\":null,\"id\":\"pi_0000000000000002\",\"last_payment_error\":null,\"latest_charge\":null,\"livemode\":false,\"metadata\":{\"order\":\"7\"},\"next_action\":null,\"object\":\"payment_intent\",\"payment_method\":\"pm_card_authenticationRequired\",\"status\":\"succeeded\",\"transfer_data\":null,\"transfer_group\":null}";
+    b"HTTP/1.1 200 OK\r\nContent-Type: application/json\r\nContent-Length: 545\r\n\r\n{\"amount\":2000,\"amount_capturable\":0,\"amount_received\":1500,\"application_fee_amount\":null,\"cancellation_reason\":null,\"capture_method\":\"manual\",\"client_secret\":\"pi_0000000000000002_secret_payhost\",\"created\":1700000000,\"currency\":\"usd\",\"description\":null,\"id\":\"pi_0000000000000002\",\"last_payment_error\":null,\"latest_charge\":\"ch_0000000000000018\",\"livemode\":false,\"metadata\":{\"order\":\"7\"},\"next_action\":null,\"object\":\"payment_intent\",\"payment_method\":\"pm_card_authenticationRequired\",\"status\":\"succeeded\",\"transfer_data\":null,\"transfer_group\":null}";
 
-const UNEXPECTED_STATE: &[u8] =
+pub const UNEXPECTED_STATE: &[u8] =
     b"HTTP/1.1 400 Bad Request\r\nContent-Type: application/json\r\nContent-Length: 149\r\n\r\n{\"error\":{\"code\":\"payment_intent_unexpected_state\",\"message\":\"The status of this PaymentIntent does not allow this.\",\"type\":\"invalid_request_error\"}}";
 
 const PENDING: &[u8] =
@@ -69,7 +61,7 @@ const SLOW_PROCESSING: &[u8] =
     b"HTTP/1.1 200 OK\r\nContent-Type: application/json\r\nContent-Length: 505\r\n\r\n{\"amount\":2000,\"amount_capturable\":0,\"amount_received\":0,\"application_fee_amount\":null,\"cancellation_reason\":null,\"capture_method\":\"automatic\",\"client_secret\":\"pi_0000000000000002_secret_payhost\",\"created\":1700000000,\"currency\":\"usd\",\"description\":null,\"id\":\"pi_0000000000000002\",\"last_payment_error\":null,\"latest_charge\":null,\"livemode\":false,\"metadata\":{},\"next_action\":null,\"object\":\"payment_intent\",\"payment_method\":\"pm_payhost_slow_3\",\"status\":\"processing\",\"transfer_data\":null,\"transfer_group\":null}";
 
 const SLOW_SUCCEEDED: &[u8] =
-    b"HTTP/1.1 200 OK\r\nContent-Type: application/json\r\nContent-Length: 507\r\n\r\n{\"amount\":2000,\"amount_capturable\":0,\"amount_received\":2000,\"application_fee_amount\":null,\"cancellation_reason\":null,\"capture_method\":\"automatic\",\"client_secret\":\"pi_0000000000000002_secret_payhost\",\"created\":1700000000,\"currency\":\"usd\",\"description\":null,\"id\":\"pi_0000000000000002\",\"last_payment_error\":null,\"latest_charge\":null,\"livemode\":false,\"metadata\":{},\"next_action\":null,\"object\":\"payment_intent\",\"payment_method\":\"pm_payhost_slow_3\",\"status\":\"succeeded\",\"transfer_data\":null,\"transfer_group\":null}";
+    b"HTTP/1.1 200 OK\r\nContent-Type: application/json\r\nContent-Length: 524\r\n\r\n{\"amount\":2000,\"amount_capturable\":0,\"amount_received\":2000,\"application_fee_amount\":null,\"cancellation_reason\":null,\"capture_method\":\"automatic\",\"client_secret\":\"pi_0000000000000002_secret_payhost\",\"created\":1700000000,\"currency\":\"usd\",\"description\":null,\"id\":\"pi_0000000000000002\",\"last_payment_error\":null,\"latest_charge\":\"ch_0000000000000006\",\"livemode\":false,\"metadata\":{},\"next_action\":null,\"object\":\"payment_intent\",\"payment_method\":\"pm_payhost_slow_3\",\"status\":\"succeeded\",\"transfer_data\":null,\"transfer_group\":null}";
 
 const FAILED: &[u8] =
     b"HTTP/1.1 500 Internal Server Error\r\nContent-Type: application/json\r\nContent-Length: 102\r\nStripe-Should-Retry: true\r\n\r\n{\"error\":{\"code\":\"acquirer_failed\",\"message\":\"The acquirer could not be reached.\",\"type\":\"api_error\"}}";
@@ -83,11 +75,8 @@ const CHALLENGED_AT_ONCE: &[u8] =
 const NOT_AUTHENTICATED: &[u8] =
     b"HTTP/1.1 200 OK\r\nContent-Type: application/json\r\nContent-Length: 614\r\n\r\n{\"amount\":2000,\"amount_capturable\":0,\"amount_received\":0,\"application_fee_amount\":null,\"cancellation_reason\":null,\"capture_method\":\"automatic\",\"client_secret\":\"pi_0000000000000002_secret_payhost\",\"created\":1700000000,\"currency\":\"usd\",\"description\":null,\"id\":\"pi_0000000000000002\",\"last_payment_error\":{\"code\":\"payment_intent_authentication_failure\",\"message\":\"The payment was not authenticated.\",\"type\":\"card_error\"},\"latest_charge\":null,\"livemode\":false,\"metadata\":{},\"next_action\":null,\"object\":\"payment_intent\",\"payment_method\":null,\"status\":\"requires_payment_method\",\"transfer_data\":null,\"transfer_group\":null}";
 
-const SUCCEEDED: &[u8] =
-    b"HTTP/1.1 200 OK\r\nContent-Type: application/json\r\nContent-Length: 502\r\n\r\n{\"amount\":2000,\"amount_capturable\":0,\"amount_received\":2000,\"application_fee_amount\":null,\"cancellation_reason\":null,\"capture_method\":\"automatic\",\"client_secret\":\"pi_0000000000000002_secret_payhost\",\"created\":1700000000,\"currency\":\"usd\",\"description\":null,\"id\":\"pi_0000000000000002\",\"last_payment_error\":null,\"latest_charge\":null,\"livemode\":false,\"metadata\":{},\"next_action\":null,\"object\":\"payment_intent\",\"payment_method\":\"pm_card_visa\",\"status\":\"succeeded\",\"transfer_data\":null,\"transfer_group\":null}";
-
-const DECLINED: &[u8] =
-    b"HTTP/1.1 402 Payment Required\r\nContent-Type: application/json\r\nContent-Length: 753\r\n\r\n{\"error\":{\"code\":\"card_declined\",\"decline_code\":\"generic_decline\",\"message\":\"Your card was declined.\",\"payment_intent\":{\"amount\":2000,\"amount_capturable\":0,\"amount_received\":0,\"application_fee_amount\":null,\"cancellation_reason\":null,\"capture_method\":\"automatic\",\"client_secret\":\"pi_0000000000000002_secret_payhost\",\"created\":1700000000,\"currency\":\"usd\",\"description\":null,\"id\":\"pi_0000000000000002\",\"last_payment_error\":{\"code\":\"card_declined\",\"decline_code\":\"generic_decline\",\"message\":\"Your card was declined.\",\"type\":\"card_error\"},\"latest_charge\":null,\"livemode\":false,\"metadata\":{},\"next_action\":null,\"object\":\"payment_intent\",\"payment_method\":null,\"status\":\"requires_payment_method\",\"transfer_data\":null,\"transfer_group\":null},\"type\":\"card_error\"}}";
+pub const SUCCEEDED: &[u8] =
+    b"HTTP/1.1 200 OK\r\nContent-Type: application/json\r\nContent-Length: 519\r\n\r\n{\"amount\":2000,\"amount_capturable\":0,\"amount_received\":2000,\"application_fee_amount\":null,\"cancellation_reason\":null,\"capture_method\":\"automatic\",\"client_secret\":\"pi_0000000000000002_secret_payhost\",\"created\":1700000000,\"currency\":\"usd\",\"description\":null,\"id\":\"pi_0000000000000002\",\"last_payment_error\":null,\"latest_charge\":\"ch_0000000000000013\",\"livemode\":false,\"metadata\":{},\"next_action\":null,\"object\":\"payment_intent\",\"payment_method\":\"pm_card_visa\",\"status\":\"succeeded\",\"transfer_data\":null,\"transfer_group\":null}";
 
 // A card that is declined, another one that needs its customer, and a capture of less than was authorised.
 #[test]
@@ -122,7 +111,7 @@ fn a_checkout(rt: HostRuntime) -> Result<(), Fail> {
 #[test]
 fn sessions_that_ask(rt: HostRuntime) -> Result<(), Fail> {
     let alloc = rt.alloc();
-    let sessions: [(&str, &[&[u8]], &[&[u8]], &[&[u8]]); 7] = [
+    let sessions: [(&str, &[&[u8]], &[&[u8]], &[&[u8]]); 6] = [
         (
             "three pending answers, two further polls",
             &[b"stdio", b"--patience", b"2"],
@@ -158,12 +147,6 @@ fn sessions_that_ask(rt: HostRuntime) -> Result<(), Fail> {
             STDIO,
             &[CREATE_CHALLENGED, FAIL_TO_AUTHENTICATE, CONFIRM_VISA],
             &[CHALLENGED_AT_ONCE, NOT_AUTHENTICATED, SUCCEEDED],
-        ),
-        (
-            "a decline and another card",
-            STDIO,
-            &[CREATE_DECLINED, CONFIRM_VISA],
-            &[DECLINED, SUCCEEDED],
         ),
     ];
     for (name, words, requests, replies) in sessions {
