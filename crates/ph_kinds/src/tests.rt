@@ -175,6 +175,98 @@ fn methods_by_their_names(rt: HostRuntime) -> Result<(), Fail> {
     Ok(())
 }
 
+/// The list of event types of a form is taken, and is these in byte order of their keys; where there are none, it is
+/// refused.
+fn has_events(rt: &impl Abort, alloc: Global, form: &Form, want: &[&[u8]]) -> Result<(), NoMemory> {
+    let flaw = if want.is_empty() {
+        Some(Flaw::InvalidValue)
+    } else {
+        None
+    };
+    match form.entries(alloc, b"enabled_events")? {
+        Some(entries) => {
+            assert_eq!(rt; map_flaw(Kind::Events, Some(entries.as_slice())), flaw);
+        }
+        None => assert!(rt; false),
+    }
+    match events_at(alloc, form, b"enabled_events")? {
+        Some(events) => {
+            let mut rest = want;
+            for event in events.as_slice() {
+                match rest {
+                    [text, behind @ ..] => {
+                        assert!(rt; event.as_slice() == *text);
+                        rest = behind;
+                    }
+                    [] => assert!(rt; false),
+                }
+            }
+            assert!(rt; rest.is_empty());
+        }
+        None => assert!(rt; want.is_empty()),
+    }
+    Ok(())
+}
+
+#[test]
+fn lists_of_event_types(rt: HostRuntime) -> Result<(), Fail> {
+    let rows: [(&[u8], &[&[u8]]); 9] = [
+        (b"enabled_events[]=*", &[b"*"]),
+        (
+            b"enabled_events[a]=payment_intent.created&enabled_events[b]=payment_intent.succeeded&enabled_events[c]=payment_intent.payment_failed&enabled_events[d]=payment_intent.canceled&enabled_events[e]=payment_intent.amount_capturable_updated&enabled_events[f]=payment_intent.requires_action&enabled_events[g]=charge.succeeded&enabled_events[h]=charge.failed&enabled_events[i]=charge.captured&enabled_events[j]=charge.refunded&enabled_events[k]=charge.dispute.created&enabled_events[l]=charge.dispute.closed&enabled_events[m]=transfer.created&enabled_events[n]=transfer.reversed&enabled_events[o]=application_fee.created&enabled_events[p]=application_fee.refunded",
+            &[
+                b"payment_intent.created",
+                b"payment_intent.succeeded",
+                b"payment_intent.payment_failed",
+                b"payment_intent.canceled",
+                b"payment_intent.amount_capturable_updated",
+                b"payment_intent.requires_action",
+                b"charge.succeeded",
+                b"charge.failed",
+                b"charge.captured",
+                b"charge.refunded",
+                b"charge.dispute.created",
+                b"charge.dispute.closed",
+                b"transfer.created",
+                b"transfer.reversed",
+                b"application_fee.created",
+                b"application_fee.refunded",
+            ],
+        ),
+        (
+            b"enabled_events[2]=charge.succeeded&enabled_events[10]=charge.captured&enabled_events[1]=*&enabled_events[0]=charge.failed",
+            &[
+                b"charge.failed",
+                b"*",
+                b"charge.captured",
+                b"charge.succeeded",
+            ],
+        ),
+        (
+            b"enabled_events[]=charge.failed&enabled_events[]=charge.failed",
+            &[b"charge.failed", b"charge.failed"],
+        ),
+        (b"enabled_events[]=Charge.failed", &[]),
+        (b"enabled_events[]=charge.failed%20", &[]),
+        (b"enabled_events[]=", &[]),
+        (
+            b"enabled_events[]=charge.failed&enabled_events[]=nothing",
+            &[],
+        ),
+        (b"enabled_events[]=nothing&enabled_events[]=*", &[]),
+    ];
+    for (body, want) in rows {
+        match read_form(rt.alloc(), b"", body) {
+            Ok(form) => match has_events(&rt, rt.alloc(), &form, want) {
+                Ok(()) => {}
+                Err(NoMemory) => assert!(rt; false),
+            },
+            Err(_) => assert!(rt; false),
+        }
+    }
+    Ok(())
+}
+
 /// The values of a form with one of each kind, where all are as they should be.
 fn values(rt: &impl Abort, alloc: Global, form: &Form) -> Result<(), NoMemory> {
     assert_eq!(rt; number_at(form, b"now"), Some(1700000000));
