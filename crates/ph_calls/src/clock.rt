@@ -7,10 +7,8 @@ use ph_base::NoMemory;
 use ph_errors::ApiError;
 use ph_form::Form;
 use ph_kinds::number_at;
+use ph_rows::CLOCK_LIMIT;
 use std::alloc::Global;
-
-/// The last second that a clock shows: the end of the year 9999, in seconds since the beginning of 1970.
-const CLOCK_LIMIT: u64 = 253_402_300_799;
 
 /// The setting of the clock of a form.
 pub fn set_clock(form: &Form) -> SetClock

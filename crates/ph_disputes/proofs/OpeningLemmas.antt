@@ -28,17 +28,12 @@ use Rattle.ph_rows.proofs.EnterLemmas.{told_with}
 use Rattle.ph_rows.proofs.FollowLemmas.{first_follows, follow_both, further_follows, origin_stands}
 use Rattle.ph_rows.proofs.HeldLemmas.{held_beside, is_version, latest_from, latest_of-apart}
 use Rattle.ph_rows.proofs.MoveLemmas.{moves_of-later, moves_of_version}
-use Rattle.ph_rows.proofs.SoundLemmas.{latest_of_sound, order_with, order_with_all, row_at-before, row_at-next, row_at_within}
+use Rattle.ph_rows.proofs.PresentLemmas.{IsCharge, charge_found}
+use Rattle.ph_rows.proofs.SoundLemmas.{order_with, order_with_all, row_at-before, row_at-next, row_at_within}
 use Rattle.ph_disputes.specs.Due.{due_charge, open_due_of, opening_due}
 use Rattle.ph_disputes.specs.Laws.{OpeningKeepsSound}
 use Rattle.ph_disputes.specs.Opening.{disputed_charge, new_dispute, open_of, opening_in, opening_of, opening_rows, taken_txn, with_dispute, with_taken}
 use Rattle.ph_disputes.proofs.HeldLemmas.{held_version}
-
--- a row is the present version of a charge, and stands at its place
-pub record IsCharge (rows : List Row) (row : Row) (charge : Charge) : Type 0 where
-  pub stands : row_at row.place rows ≡ Some row
-  pub latest : latest_of row.object rows ≡ Some row
-  pub is : row.item ≡ item.Charge charge
 
 -- what is taken, by its amount below 0
 taken_is : (amount : ℕ) → taken_move amount ≡ record { amount = neg_ℤ (pos amount); fee = pos dispute_fee }
@@ -293,28 +288,14 @@ open_keeps state batch object sound enters room = at (version_with state.rows ba
     latest : (row : Row) → version_with state.rows batch object ≡ Some row → latest_of object (state.rows ++ batch.rows) ≡ Some row
     latest row e = latest_from object None state.rows batch.rows ∙ fold_or object (latest_of object state.rows) batch.rows ∙ e
 
-    charge_is : (content : Item) (charge : Charge) → charge_in content ≡ Some charge → content ≡ item.Charge charge
-    charge_is (item.Account account) charge e = absurd (cc)
-    charge_is (item.Intent intent) charge e = absurd (cc)
-    charge_is (item.Attempt attempt) charge e = absurd (cc)
-    charge_is (item.Charge version) charge e = (let same : version ≡ charge = cc in ap (λ (c : Charge). item.Charge c) same)
-    charge_is (item.Refund refund) charge e = absurd (cc)
-    charge_is (item.Dispute dispute) charge e = absurd (cc)
-    charge_is (item.Txn txn) charge e = absurd (cc)
-    charge_is (item.Event event) charge e = absurd (cc)
-
     of_charge : (row : Row) → version_with state.rows batch object ≡ Some row → (o : Option Charge) → charge_in row.item ≡ o
         → MayBeEntered state (opening_of row.account object batch o)
     of_charge row e None is = enters
     of_charge row e (Some charge) is =
         let steady = whole_sound state batch sound enters in
-        let stood = latest_of_sound (record state { rows = state.rows ++ batch.rows }) object row steady (latest row e) in
-        subst (λ (n : ℕ). MayBeEntered state (opening_rows row.account n charge (last_place batch + 1) batch)) stood.1
-        (opening_enters state batch row charge sound enters room (record {
-          stands = stood.0;
-          latest = subst (λ (n : ℕ). latest_of n (state.rows ++ batch.rows) ≡ Some row) (sym stood.1) (latest row e);
-          is = charge_is row.item charge is;
-        }))
+        let found = charge_found (record state { rows = state.rows ++ batch.rows }) object row charge steady (latest row e) is in
+        subst (λ (n : ℕ). MayBeEntered state (opening_rows row.account n charge (last_place batch + 1) batch)) found.1
+        (opening_enters state batch row charge sound enters room found.0)
 
     at : (o : Option Row) → version_with state.rows batch object ≡ o → MayBeEntered state (opening_in object batch o)
     at None e = enters

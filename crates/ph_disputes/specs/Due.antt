@@ -5,10 +5,9 @@ use Rattle.ph_base.specs.declared.acquirer.Method.{Method}
 use Rattle.ph_base.specs.declared.acquirer.Method.TheVariants as method
 use Rattle.ph_rows.specs.declared.rows.Row.{Row}
 use Rattle.ph_rows.specs.declared.charges.Charge.{Charge}
-use Rattle.ph_rows.specs.declared.intents.Intent.{Intent}
 use Rattle.ph_rows.specs.declared.payment_methods.PaymentMethod.{PaymentMethod}
 use Rattle.ph_rows.specs.Batches.{BatchState}
-use Rattle.ph_rows.specs.Items.{intent_in}
+use Rattle.ph_rows.specs.Items.{latest_charge_in}
 use Rattle.ph_rows.specs.Rows.{latest_of}
 use Rattle.ph_rows.specs.Sound.{charge_of}
 use Rattle.ph_disputes.specs.Opening.{open_of}
@@ -43,17 +42,9 @@ is_due_of (Some charge) = is_due charge
 abbrev pub if_due : List Row → ℕ → Option ℕ
 if_due rows number = if is_due_of (charge_of rows number) then Some number else None
 
--- the number of the latest charge of a payment intent, where it has one
-abbrev pub latest_charge : Intent → Option ℕ
-latest_charge intent = intent.latest_charge
-
--- the latest charge of the payment intent in a row, where it has one
-abbrev pub latest_charge_in : Row → Option ℕ
-latest_charge_in row = option_and_then latest_charge (intent_in row.item)
-
 -- the latest charge of a payment intent whose last version is among rows
 abbrev pub latest_charge_among : List Row → ℕ → Option ℕ
-latest_charge_among rows intent = option_and_then latest_charge_in (latest_of intent rows)
+latest_charge_among rows intent = option_and_then (λ row. latest_charge_in row.item) (latest_of intent rows)
 
 -- the same, where a dispute of it is due by its last version among the rows
 abbrev pub due_charge : List Row → ℕ → Option ℕ

@@ -27,15 +27,15 @@ use Rattle.ph_rows.proofs.AmountLemmas.{IsRefunded, latest_of-last, refunded_sum
 use Rattle.ph_rows.proofs.FollowLemmas.{first_follows, further_follows, origin_stands}
 use Rattle.ph_rows.proofs.HeldLemmas.{IsLoose, captured_is_loose, held_beside}
 use Rattle.ph_rows.proofs.MoveLemmas.{moves_stay}
+use Rattle.ph_rows.proofs.PresentLemmas.{IsCharge}
 use Rattle.ph_rows.proofs.SoundLemmas.{order_with, order_with_all, row_at-before, row_at-next}
 use Rattle.ph_refunds.specs.Entry.{new_refund, refund_rows, refund_txn, refunded_charge, refunded_from, with_refund, with_refund_txn}
 use Rattle.ph_refunds.specs.Laws.{refund_texts}
 use Rattle.ph_refunds.specs.Refunds.{left_of}
-use Rattle.ph_refunds.proofs.FoundLemmas.{IsFound}
 
 -- the refund of an amount that is left of a charge may be entered
 pub refund_enters : (state : ViewState) (entry : ℕ) (call : CreateRefund) (row : Row) (charge : Charge) (capture : Capture)
-    (amount : ℕ) → IsReady state → AreUtf8 (refund_texts call) → IsFound state.rows row charge → 0 < left_of charge
+    (amount : ℕ) → IsReady state → AreUtf8 (refund_texts call) → IsCharge state.rows row charge → 0 < left_of charge
     → amount ≤ left_of charge
     → MayBeEntered state (refund_rows call row.account row.object charge capture amount (batch_after state entry))
 refund_enters state entry call row charge capture amount ready texts found some within = record {

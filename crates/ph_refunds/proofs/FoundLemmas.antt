@@ -1,50 +1,20 @@
 -- The charge that a refund names, among sound rows.
 use Rattle.std.specs.Prelude.{codes, option_and_then}
-use Rattle.std.proofs.Common.{◌≡◌, ℕ, List, Option, None, Some, refl, sym, ap, subst}
+use Rattle.std.proofs.Common.{◌≡◌, ℕ, List, Option, None, Some, refl}
 use Rattle.ph_base.specs.declared.ids.Kind.TheVariants as kind
 use Rattle.ph_calls.specs.Outcomes.{Outcome, Refuses}
 use Rattle.ph_errors.specs.declared.api_error.ApiError.{ApiError}
 use Rattle.ph_errors.specs.Table.{error_of, NoSuchObject, ParameterMissing}
 use Rattle.ph_rows.specs.declared.rows.Row.{Row}
 use Rattle.ph_rows.specs.declared.charges.Charge.{Charge}
-use Rattle.ph_rows.specs.declared.items.Item.{Item}
-use Rattle.ph_rows.specs.declared.items.Item.TheVariants as item
-use Rattle.ph_rows.specs.Items.{charge_in}
+use Rattle.ph_rows.specs.Items.{charge_in, latest_charge_in}
 use Rattle.ph_rows.specs.Names.{object_named}
-use Rattle.ph_rows.specs.Rows.{row_at, latest_of}
+use Rattle.ph_rows.specs.Rows.{latest_of}
 use Rattle.ph_rows.specs.Sound.{IsSound}
 use Rattle.ph_rows.specs.Views.{ViewState}
 use Rattle.ph_rows.proofs.FoundLemmas.{object_found}
-use Rattle.ph_rows.proofs.SoundLemmas.{latest_of_sound}
-use Rattle.ph_refunds.specs.Finding.{latest_charge_in, latest_charge_named, latest_version_in, made_at, made_of, made_of_row}
-
--- a row is the present version of a charge, and stands at its place
-pub record IsFound (rows : List Row) (row : Row) (charge : Charge) : Type 0 where
-  pub stands : row_at row.place rows ≡ Some row
-  pub latest : latest_of row.object rows ≡ Some row
-  pub is : row.item ≡ item.Charge charge
-
--- the item of which there is a charge is its version
-charge_is : (content : Item) (charge : Charge) → charge_in content ≡ Some charge → content ≡ item.Charge charge
-charge_is (item.Account account) charge e = absurd (cc)
-charge_is (item.Intent intent) charge e = absurd (cc)
-charge_is (item.Attempt attempt) charge e = absurd (cc)
-charge_is (item.Charge version) charge e = (let same : version ≡ charge = cc in ap (λ (c : Charge). item.Charge c) same)
-charge_is (item.Refund refund) charge e = absurd (cc)
-charge_is (item.Dispute dispute) charge e = absurd (cc)
-charge_is (item.Txn txn) charge e = absurd (cc)
-charge_is (item.Event event) charge e = absurd (cc)
-
--- the last version of an object, where it is one of a charge
-found : (state : ViewState) (number : ℕ) (row : Row) (charge : Charge) → IsSound state → latest_of number state.rows ≡ Some row
-    → charge_in row.item ≡ Some charge → IsFound state.rows row charge
-found state number row charge sound latest is =
-    let stood : (row_at row.place state.rows ≡ Some row) × (row.object ≡ number) = latest_of_sound state number row sound latest in
-    record {
-      stands = stood.0;
-      latest = subst (λ (n : ℕ). latest_of n state.rows ≡ Some row) (sym stood.1) latest;
-      is = charge_is row.item charge is;
-    }
+use Rattle.ph_rows.proofs.PresentLemmas.{IsCharge, charge_found}
+use Rattle.ph_refunds.specs.Finding.{latest_charge_named, latest_version_in, made_at, made_of, made_of_row}
 
 -- the latest charge of a payment intent has a number
 number_of_latest : (rows : List Row) (text : List ℕ) (row : Row) → latest_charge_named rows text ≡ Some row
@@ -59,7 +29,7 @@ number_of_latest rows text row e = at (object_named rows kind.Intent text) e
     at : (intent : Option Row) → option_and_then (latest_version_in rows) intent ≡ Some row
         → (number : ℕ) × (latest_of number rows ≡ Some row)
     at None e = absurd (cc)
-    at (Some intent) e = from (latest_charge_in intent) e
+    at (Some intent) e = from (latest_charge_in intent.item) e
 
 -- what two operations make of a row is alike, where it is for a version of a charge
 alike_of_row : (P : Outcome → Outcome → Type 0) (first second : Row → Charge → Outcome) (param : List ℕ) (row : Option Row)
@@ -76,17 +46,17 @@ alike_of_row P first second param (Some last) refuses each = at (charge_in last.
 -- what two operations make of the charge that a refund names is alike, where it is for each charge among the rows
 pub alike_at : (P : Outcome → Outcome → Type 0) (state : ViewState) (first second : Row → Charge → Outcome)
     (charge intent : Option (List ℕ)) → IsSound state → ((error : ApiError) → P (Refuses error) (Refuses error))
-    → ((row : Row) (version : Charge) → IsFound state.rows row version → P (first row version) (second row version))
+    → ((row : Row) (version : Charge) → IsCharge state.rows row version → P (first row version) (second row version))
     → P (made_at first state.rows charge intent) (made_at second state.rows charge intent)
 alike_at P state first second (Some charge) None sound refuses each =
     alike_of_row P first second (codes "charge") (object_named state.rows kind.Charge charge) refuses
     (λ row version e is.
-    each row version (found state row.object row version sound (object_found state kind.Charge charge row sound e).latest is))
+    each row version (charge_found state row.object row version sound (object_found state kind.Charge charge row sound e).latest is).0)
 alike_at P state first second None (Some intent) sound refuses each =
     alike_of_row P first second (codes "payment_intent") (latest_charge_named state.rows intent) refuses
     (λ row version e is.
     let numbered = number_of_latest state.rows intent row e in
-    each row version (found state numbered.0 row version sound numbered.1 is))
+    each row version (charge_found state numbered.0 row version sound numbered.1 is).0)
 alike_at P state first second None None sound refuses each = refuses (error_of (ParameterMissing (codes "charge")))
 alike_at P state first second (Some charge) (Some intent) sound refuses each =
     refuses (error_of (ParameterMissing (codes "charge")))

@@ -11,11 +11,12 @@ use Rattle.ph_rows.specs.declared.charges.Capture.{Capture}
 use Rattle.ph_rows.specs.declared.charges.Charge.{Charge}
 use Rattle.ph_rows.specs.Batches.{BatchState, last_place}
 use Rattle.ph_rows.specs.Sound.{HasSums}
+use Rattle.ph_rows.proofs.PresentLemmas.{IsCharge}
 use Rattle.ph_refunds.specs.Entry.{refund_rows}
-use Rattle.ph_refunds.specs.Laws.{RefundsAreSums, refund_texts}
-use Rattle.ph_refunds.specs.Refunds.{is_disputed, left_of, refund_amount, refund_by, refund_left, refund_of, refund_outcome, summed}
+use Rattle.ph_refunds.specs.Laws.{RefundsAreSums, refund_texts, summed}
+use Rattle.ph_refunds.specs.Refunds.{is_disputed, left_of, refund_amount, refund_by, refund_left, refund_of, refund_outcome}
 use Rattle.ph_refunds.proofs.EntryLemmas.{refund_enters}
-use Rattle.ph_refunds.proofs.FoundLemmas.{IsFound, alike_at}
+use Rattle.ph_refunds.proofs.FoundLemmas.{alike_at}
 
 -- over sound rows a refund comes to what the sum of the charge's refunds decides
 pub refund_sums : RefundsAreSums
@@ -24,7 +25,7 @@ refund_sums state account call batch sound =
     (λ row charge. refund_of state.rows call batch row (summed state.rows row.object charge)) call.charge
     call.payment_intent sound (λ error. refl) (λ row charge found. ap (refund_of state.rows call batch row) (same row charge found))
   where
-    same : (row : Row) (charge : Charge) → IsFound state.rows row charge → charge ≡ summed state.rows row.object charge
+    same : (row : Row) (charge : Charge) → IsCharge state.rows row charge → charge ≡ summed state.rows row.object charge
     same row charge found =
         let sums : HasSums row.object charge state.rows = sound.charges row.object row charge found.latest found.is in
         ap (λ (n : ℕ). record charge { amount_refunded = n }) sums.refunded
@@ -46,7 +47,7 @@ refund_keeps state entry account call ready texts =
     begun : BatchState
     begun = batch_after state entry
 
-    of_amount : (row : Row) (charge : Charge) (capture : Capture) (amount : ℕ) → IsFound state.rows row charge
+    of_amount : (row : Row) (charge : Charge) (capture : Capture) (amount : ℕ) → IsCharge state.rows row charge
         → 0 < left_of charge → AddsSound state (refund_amount call begun row charge capture amount)
     of_amount row charge capture amount found some =
         cond_both (nat_lt (left_of charge) amount) (Refuses (error_of (InvalidValue (codes "amount"))))
@@ -54,14 +55,14 @@ refund_keeps state entry account call ready texts =
         (λ above. tt)
         (λ within. refund_enters state entry call row charge capture amount ready texts found some (not_above (left_of charge) amount within))
 
-    of_left : (row : Row) (charge : Charge) (capture : Capture) → IsFound state.rows row charge
+    of_left : (row : Row) (charge : Charge) (capture : Capture) → IsCharge state.rows row charge
         → AddsSound state (refund_left call begun row charge capture)
     of_left row charge capture found =
         cond_both (left_of charge == 0) (Refuses (error_of ChargeAlreadyRefunded))
         (refund_amount call begun row charge capture (unwrap_or call.amount (left_of charge))) (AddsSound state) (λ none. tt)
         (λ some. of_amount row charge capture (unwrap_or call.amount (left_of charge)) found (not_none (left_of charge) some))
 
-    by : (row : Row) (charge : Charge) → IsFound state.rows row charge → (capture : Option Capture)
+    by : (row : Row) (charge : Charge) → IsCharge state.rows row charge → (capture : Option Capture)
         → AddsSound state (refund_by state.rows call begun row charge capture)
     by row charge found None = tt
     by row charge found (Some capture) =

@@ -5,22 +5,13 @@ use Rattle.ph_calls.specs.Outcomes.{Outcome, Refuses}
 use Rattle.ph_errors.specs.Table.{error_of, NoSuchObject, ParameterMissing}
 use Rattle.ph_rows.specs.declared.rows.Row.{Row}
 use Rattle.ph_rows.specs.declared.charges.Charge.{Charge}
-use Rattle.ph_rows.specs.declared.intents.Intent.{Intent}
-use Rattle.ph_rows.specs.Items.{charge_in, intent_in}
+use Rattle.ph_rows.specs.Items.{charge_in, latest_charge_in}
 use Rattle.ph_rows.specs.Names.{object_named}
 use Rattle.ph_rows.specs.Rows.{latest_of}
 
--- the number of the latest charge of a payment intent, where it has one
-abbrev pub latest_charge : Intent → Option ℕ
-latest_charge intent = intent.latest_charge
-
--- the number of the latest charge of the payment intent in a row, where it has one
-abbrev pub latest_charge_in : Row → Option ℕ
-latest_charge_in row = option_and_then latest_charge (intent_in row.item)
-
 -- the present version of the latest charge of the payment intent in a row, where it has one
 abbrev pub latest_version_in : List Row → Row → Option Row
-latest_version_in rows row = option_and_then (λ number. latest_of number rows) (latest_charge_in row)
+latest_version_in rows row = option_and_then (λ number. latest_of number rows) (latest_charge_in row.item)
 
 -- the present version of the latest charge of the payment intent whose printed id a text is
 abbrev pub latest_charge_named : List Row → List ℕ → Option Row

@@ -12,7 +12,6 @@ use Rattle.ph_rows.specs.declared.disputes.DisputeStatus.TheVariants as status
 use Rattle.ph_rows.specs.Batches.{BatchState, last_place}
 use Rattle.ph_rows.specs.Items.{dispute_in}
 use Rattle.ph_rows.specs.Rows.{latest_of}
-use Rattle.ph_rows.specs.Transactions.{refunded_of}
 use Rattle.ph_refunds.specs.Entry.{refund_rows}
 use Rattle.ph_refunds.specs.Finding.{made_at}
 
@@ -71,13 +70,3 @@ refund_of rows call batch row charge = refund_by rows call batch row charge char
 -- the refund of the charge that a call names, whatever the charge's account
 abbrev pub refund_outcome : List Row → ℕ → CreateRefund → BatchState → Outcome
 refund_outcome rows account call batch = made_at (refund_of rows call batch) rows call.charge call.payment_intent
-
--- a version of a charge, with the sum of its refunds in place of the refunded amount that it keeps
-abbrev pub summed : List Row → ℕ → Charge → Charge
-summed rows object charge = record charge { amount_refunded = refunded_of object rows }
-
--- the refund as the sum of the charge's refunds decides
-abbrev pub refund_by_sum : List Row → ℕ → CreateRefund → BatchState → Outcome
-refund_by_sum rows account call batch =
-    made_at (λ row charge. refund_of rows call batch row (summed rows row.object charge)) rows call.charge
-    call.payment_intent

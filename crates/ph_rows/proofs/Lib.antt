@@ -9,5 +9,6 @@ pub mod HeldLemmas
 mod MetadataLemmas
 pub mod MoveLemmas
 pub mod NameLemmas
+pub mod PresentLemmas
 pub mod SoundLemmas
 pub mod UnderwayLemmas

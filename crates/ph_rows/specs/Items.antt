@@ -1,5 +1,5 @@
 -- The version that an item is, by the kind of its object.
-use Rattle.std.specs.Prelude.{Option, None, Some}
+use Rattle.std.specs.Prelude.{ℕ, Option, None, Some, option_and_then}
 use Rattle.ph_rows.specs.declared.items.Item.{Item}
 use Rattle.ph_rows.specs.declared.items.Item.TheVariants as item
 use Rattle.ph_rows.specs.declared.intents.Intent.{Intent}
@@ -74,3 +74,7 @@ txn_in (item.Refund refund) = None
 txn_in (item.Dispute dispute) = None
 txn_in (item.Txn txn) = Some txn
 txn_in (item.Event event) = None
+
+-- the number of the latest charge of the payment intent that an item is, where it has one
+abbrev pub latest_charge_in : Item → Option ℕ
+latest_charge_in item = option_and_then (λ (intent : Intent). intent.latest_charge) (intent_in item)

@@ -1,5 +1,5 @@
 //! The rows that one entry of the history adds.
-ghost use Rattle.std.specs.Prelude.{◌≡◌, ◌+◌, ◌<◌, ◌^◌, ◌++◌, length, IfOk, OnOk, OnErr};
+ghost use Rattle.std.specs.Prelude.{◌≡◌, ◌+◌, ◌<◌, ◌^◌, IfOk, OnOk, OnErr};
 ghost use Rattle.std.specs.Option.{option_copied};
 ghost use Rattle.ph_rows.specs.Rows.{latest_of};
 ghost use Rattle.ph_rows.specs.Batches.{empty_batch, last_place, with_row, with_announced, account_of, event_row, event_rows, made_rows, version_with};

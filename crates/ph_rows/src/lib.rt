@@ -45,5 +45,5 @@ pub use payment_methods::PaymentMethod;
 pub use refunds::{Refund, RefundReason};
 pub use rows::Row;
 pub use transactions::{Txn, TxnSource, TxnType};
-pub use views::View;
+pub use views::{CLOCK_LIMIT, View};
 pub use weights::weight_with_rows;

@@ -14,6 +14,18 @@ pub struct Movement {
     pub available_on: u64,
 }
 
+impl Movement {
+    ghost use Rattle.std.specs.Prelude.{◌≡◌, ◌==◌};
+    ghost use Rattle.ph_rows.specs.Balances.{currency_number};
+
+    /// Whether it moves the balance in a currency.
+    pub fn is_in(&self, currency: Currency) -> bool
+        ensures { result ≡ (currency_number self.now.currency == currency_number currency) }
+    {
+        self.currency as u8 == currency as u8
+    }
+}
+
 impl Item {
     ghost use Rattle.std.specs.Prelude.{◌≡◌};
     ghost use Rattle.ph_rows.specs.Balances.{movement_of};

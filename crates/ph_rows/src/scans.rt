@@ -2,7 +2,7 @@
 ghost use Rattle.std.specs.Prelude.{◌≡◌, ◌<◌, ◌^◌, ◌∷◌, [], length};
 ghost use Rattle.std.specs.Option.{option_copied};
 ghost use Rattle.ph_rows.specs.Rows.{row_at, latest_of, is_first_of, greater, lesser, newest_object, oldest_object, newest_of, oldest_of};
-ghost use Rattle.ph_rows.specs.Balances.{balance_of, currency_number};
+ghost use Rattle.ph_rows.specs.Balances.{balance_of};
 
 use crate::items::kind_number;
 use crate::rows::Row;
@@ -108,13 +108,6 @@ pub fn oldest(rows: &[Row], account: u64, kind: Kind, above: u64) -> Option<&Row
     }
 }
 
-// The place of a currency in the list of currencies.
-fn currency_place(currency: Currency) -> u8
-    ensures { result ≡ currency_number currency }
-{
-    currency as u8
-}
-
 // What one row moves on a balance.
 fn moved(available: bool, row: &Row, account: u64, currency: Currency, time: u64) -> i32
     ensures { result ≡ balance_of available account currency time (row.now ∷ []) }
@@ -125,7 +118,7 @@ fn moved(available: bool, row: &Row, account: u64, currency: Currency, time: u64
     let Some(movement) = row.item.movement() else {
         return 0;
     };
-    if currency_place(movement.currency) != currency_place(currency) {
+    if !movement.is_in(currency) {
         return 0;
     }
     let counts = if available {

@@ -1,7 +1,7 @@
 //! The balance of an account.
-ghost use Rattle.std.specs.Prelude.{◌≡◌, ◌++◌, IfOk, ◌∷◌, []};
+ghost use Rattle.std.specs.Prelude.{◌≡◌, IfOk};
 ghost use Rattle.ph_money.specs.Currencies.{currencies};
-ghost use Rattle.ph_rows.specs.Balances.{balance_of, currency_number, movement_of};
+ghost use Rattle.ph_rows.specs.Balances.{balance_of};
 ghost use Rattle.ph_views.specs.Balances.{balance_doc, currencies_of, has_txns, is_txn_of, sum_doc, sum_docs};
 
 use ph_base::NoMemory;
@@ -67,16 +67,9 @@ fn is_txn_of(account: u64, currency: Currency, row: &Row) -> bool
         return false;
     }
     match row.item.movement() {
-        Some(movement) => currency_place(movement.currency) == currency_place(currency),
+        Some(movement) => movement.is_in(currency),
         None => false,
     }
-}
-
-// The place of a currency in the list of currencies.
-fn currency_place(currency: Currency) -> u8
-    ensures { result ≡ currency_number currency }
-{
-    currency as u8
 }
 
 // The available or the pending balances of an account in currencies.
