@@ -1,5 +1,5 @@
 -- What entries come to: replies with their statuses, few rows, and steps that attempts may make.
-use Rattle.std.proofs.Common.{◌≡◌, ◌≢◌, ℕ, suc, ◌+◌, ◌*◌, ◌^◌, ◌≤◌, ◌<◌, ◌∷◌, ◌++◌, ◌==◌, ◌&&◌, Bool, true, false, not, List, [], length, Option, Some, None, refl, sym, ap, ◌∙◌, subst, length-append, arith, IsTrue, codes}
+use Rattle.std.proofs.Common.{◌≡◌, ◌≢◌, ℕ, ◌+◌, ◌*◌, ◌≤◌, ◌∷◌, ◌++◌, ◌==◌, ◌&&◌, Bool, true, false, not, List, [], length, Option, Some, None, refl, sym, subst, length-append, arith, IsTrue, codes}
 use Rattle.std.specs.List.{fold}
 use Rattle.std.proofs.lemmas.Bool.{false≢true}
 use Rattle.ph_base.specs.declared.acquirer.Decline.{Decline}
@@ -9,7 +9,6 @@ use Rattle.ph_base.specs.declared.acquirer.Why.{Why}
 use Rattle.ph_base.specs.declared.acquirer.Why.TheVariants as why
 use Rattle.ph_attempts.specs.declared.flights.Attempt as flights
 use Rattle.ph_attempts.specs.declared.flights.Flight.{Flight}
-use Rattle.ph_errors.specs.declared.api_error.ApiError.{ApiError}
 use Rattle.ph_errors.specs.Table.{CardDeclined, NoSuchObject, error_of}
 use Rattle.ph_rows.specs.declared.attempts.Attempt.{Attempt}
 use Rattle.ph_rows.specs.declared.rows.Row.{Row}
@@ -19,9 +18,8 @@ use Rattle.ph_charges.specs.Charges.{new_charge}
 use Rattle.ph_rows.specs.declared.intents.CaptureMethod.{CaptureMethod}
 use Rattle.ph_rows.specs.declared.intents.CaptureMethod.TheVariants as capture_method
 use Rattle.ph_rows.specs.declared.intents.Intent.{Intent}
-use Rattle.ph_rows.specs.declared.items.Item.{Item}
 use Rattle.ph_rows.specs.declared.orders.Order.{Order}
-use Rattle.ph_rows.specs.Batches.{BatchState, empty_batch, last_place, made_rows, version_with}
+use Rattle.ph_rows.specs.Batches.{BatchState, empty_batch, version_with}
 use Rattle.ph_rows.specs.Items.{attempt_in, intent_in}
 use Rattle.ph_rows.specs.Rows.{latest_of}
 use Rattle.ph_http.specs.declared.message.Raw.{Raw}
@@ -29,7 +27,7 @@ use Rattle.ph_http.specs.declared.message.Reply.{Reply}
 use Rattle.ph_http.specs.Replies.{is_status}
 use Rattle.ph_calls.specs.Outcomes.{Outcome, Refuses, Adds}
 use Rattle.ph_intents.specs.Attempts.{begun}
-use Rattle.ph_intents.specs.Settle.{settle_outcome, settle_row, settle_attempt, settle_intent, settle_both, with_charge, with_ruling, with_settled}
+use Rattle.ph_intents.specs.Settle.{settle_outcome, settle_row, settle_attempt, settle_intent, settle_both, with_charge, with_settled}
 use Rattle.ph_book.specs.declared.setup.Setup.{Setup}
 use Rattle.ph_book.specs.declared.acts.Entry.{Entry}
 use Rattle.ph_book.specs.declared.acts.Deed.{Deed}
@@ -39,11 +37,11 @@ use Rattle.ph_book.specs.declared.acts.Answer.TheVariants as answer
 use Rattle.ph_book.specs.Answers.{Says, HasStatus, IsNoPark}
 use Rattle.ph_book.specs.Calls.{Upshot, Makes, Shows, Sets, and_opened, called_at}
 use Rattle.ph_book.specs.Entries.{call_entry, finish_entry}
-use Rattle.ph_book.specs.Replies.{Said, Replies, Waits, Silence, declined_reply, nothing_reply, park_reply, ruling_reply, settled_reply, shown_reply, version_reply}
-use Rattle.ph_book.specs.History.{Effect, Happening, added_effect, call_effect, finish_effect, outcome_effect, park_effect, outcome_rows, parked_by, parked_from, ruled_outcome, effect_of, effect_after, rows_after, time_after, attempts_after, happening_of, and_then, past_of, rows_of, attempts_of, effect_to, said_to}
+use Rattle.ph_book.specs.Replies.{Said, Replies, Waits, Silence, declined_reply, nothing_reply, park_reply, ruling_reply, settled_reply, version_reply}
+use Rattle.ph_book.specs.History.{Effect, Happening, added_effect, call_effect, finish_effect, outcome_effect, park_effect, outcome_rows, parked_by, parked_from, ruled_outcome, effect_of, rows_after, time_after, attempts_after, happening_of, and_then, past_of, rows_of, attempts_of, effect_to, said_to}
 use Rattle.ph_book.specs.Runs.{after_step, run_in}
-use Rattle.ph_book.proofs.ErrorLemmas.{is_served, IsAnswered, answered}
-use Rattle.ph_book.proofs.FitLemmas.{ArePlaced, Continues, IsAny, IsAsked, IsFit, IsGood, IsNoAttempt, IsSmall, called_good, due_small, empty_small, made_longer, placed_append, small_continues, small_most, small_row, small_told}
+use Rattle.ph_book.proofs.ErrorLemmas.{is_served, answered}
+use Rattle.ph_book.proofs.FitLemmas.{ArePlaced, Continues, IsAny, IsAsked, IsFit, IsGood, IsSmall, called_good, due_small, empty_small, made_longer, placed_append, small_continues, small_most, small_row, small_told}
 use Rattle.ph_book.proofs.HistoryLemmas.{attempts_more, rows_more}
 use Rattle.ph_book.proofs.RunLemmas.{AreKept, IsNext, entry_of_run, kept_step}
 

@@ -1,5 +1,5 @@
 -- The errors of requests have statuses that replies are written with, and none that is a park's.
-use Rattle.std.proofs.Common.{◌≡◌, ℕ, Bool, true, false, cond, not, ◌==◌, ◌&&◌, is_none, nat_lt, List, [], ◌∷◌, Option, Some, None, option_map, Result, Ok, Err, find, refl, IsTrue, codes}
+use Rattle.std.proofs.Common.{◌≡◌, ℕ, Bool, true, false, cond, not, ◌==◌, ◌&&◌, is_none, nat_lt, List, [], ◌∷◌, Option, Some, None, option_map, Result, Ok, Err, find, refl, codes}
 use Rattle.std.specs.Option.{option_or}
 use Rattle.ph_errors.specs.declared.api_error.ApiError.{ApiError}
 use Rattle.ph_errors.specs.Table.{Problem, InvalidApiKey, NoSuchAccount, UnrecognizedUrl, BadName, Clash, TooDeep, ParameterUnknown, ParameterMissing, ParameterInvalidInteger, AmountTooSmall, AmountTooLarge, InvalidValue, NoSuchPaymentMethod, KeyTooLong, KeyNotText, KeyDiffers, KeyInUse, NoSuchObject, UnexpectedState, ChargeNotCaptured, DisputeClosed, ChargeAlreadyRefunded, ChargeDisputed, PlatformOnly, BalanceInsufficient, ClockBackwards, CardDeclined, NotAuthenticated, AcquirerPending, AcquirerFailed, NoMemory, HistoryFull, Malformed, BodyTooLarge, HeadTooLarge, NotImplemented, VersionNotSupported, error_of}
@@ -16,7 +16,6 @@ use Rattle.ph_money.specs.Currencies.{terms_of}
 use Rattle.ph_http.specs.declared.message.Raw.{Raw}
 use Rattle.ph_rows.specs.Sound.{clock_limit}
 use Rattle.ph_http.specs.Replies.{is_status}
-use Rattle.ph_calls.specs.declared.call.Call.{Call}
 use Rattle.ph_calls.specs.declared.call.Call.TheVariants as call
 use Rattle.ph_calls.specs.declared.call.CreateIntent.{CreateIntent}
 use Rattle.ph_calls.specs.declared.call.CreateRefund.{CreateRefund}

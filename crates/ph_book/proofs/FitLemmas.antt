@@ -1,5 +1,5 @@
 -- What a call comes to: an error that can be answered, or few rows behind those before, the last of which may begin an attempt.
-use Rattle.std.proofs.Common.{◌≡◌, ℕ, suc, ◌+◌, ◌≤◌, ◌<◌, ◌∷◌, ◌++◌, ◌==◌, ◌||◌, Bool, true, false, cond, not, eqb, nat_lt, is_none, unwrap_or, List, [], length, Option, Some, None, Result, Ok, Err, refl, sym, ap, ◌∙◌, subst, length-append, arith, codes}
+use Rattle.std.proofs.Common.{◌≡◌, ℕ, suc, ◌+◌, ◌≤◌, ◌<◌, ◌∷◌, ◌++◌, ◌==◌, ◌||◌, Bool, true, false, cond, not, eqb, nat_lt, unwrap_or, List, [], length, Option, Some, None, Result, Ok, Err, refl, sym, ap, ◌∙◌, subst, length-append, arith, codes}
 use Rattle.std.specs.Option.{option_or}
 use Rattle.std.specs.List.{fold}
 use Rattle.std.proofs.lemmas.Bool.{eq-eqb, cond-true}
@@ -7,7 +7,6 @@ use Rattle.std.proofs.lemmas.Bool.Decides.{nat_tests}
 use Rattle.std.proofs.lemmas.List.Sums.{fold-append}
 use Rattle.ph_base.specs.declared.acquirer.Method.{Method}
 use Rattle.ph_base.specs.declared.acquirer.Method.TheVariants as method
-use Rattle.ph_base.specs.declared.acquirer.Ruling.{Ruling}
 use Rattle.ph_base.specs.declared.ids.Kind.{Kind}
 use Rattle.ph_base.specs.declared.ids.Kind.TheVariants as kind
 use Rattle.ph_money.specs.declared.currencies.Currency.{Currency}
@@ -50,24 +49,24 @@ use Rattle.ph_calls.specs.Outcomes.{Outcome, Refuses, Adds}
 use Rattle.ph_calls.specs.Reading.{reading_of}
 use Rattle.ph_views.specs.Events.{platform}
 use Rattle.ph_charges.specs.Captures as captures
-use Rattle.ph_disputes.specs.Answers.{answered_dispute, evidence_of, verdict_on, with_evidence, with_verdict}
+use Rattle.ph_disputes.specs.Answers.{evidence_of, verdict_on, with_evidence, with_verdict}
 use Rattle.ph_disputes.specs.Closing.{close_of}
 use Rattle.ph_disputes.specs.Due.{due_charge, open_due_of, opening_due}
 use Rattle.ph_disputes.specs.Finding as disputes
-use Rattle.ph_disputes.specs.Opening.{open_of, opening_in, opening_of, opening_rows}
+use Rattle.ph_disputes.specs.Opening.{opening_in, opening_of}
 use Rattle.ph_intents.specs.Attempts.{attempted, begun, new_attempt, order_in, order_of, with_new_attempt}
 use Rattle.ph_intents.specs.Authenticate.{authenticate_of, authenticated_intent, fail_of, failed_intent}
 use Rattle.ph_intents.specs.Cancel.{cancel_of, canceled_intent}
 use Rattle.ph_intents.specs.Capture.{capture_amount, capture_of, capture_outcome, received_intent, with_charge_captured}
 use Rattle.ph_intents.specs.Confirm.{confirm_of, confirm_with, paying_intent}
 use Rattle.ph_intents.specs.Create.{first_status, create_by, create_outcome, create_confirmed_outcome, created_with, new_intent}
-use Rattle.ph_intents.specs.Refusals.{if_allowed, invalid_value, made_of, made_of_row, made_at, no_such_intent, unexpected_state}
+use Rattle.ph_intents.specs.Refusals.{if_allowed, invalid_value, made_of, made_of_row, made_at}
 use Rattle.ph_intents.specs.Statuses.{next_status}
 use Rattle.ph_intents.specs.declared.statuses.Step.TheVariants as step
 use Rattle.ph_intents.specs.Update.{step_of, update_of, update_with, updated_intent, most_keys}
 use Rattle.ph_intents.specs.Versions.{adds_told, with_version}
 use Rattle.ph_refunds.specs.Finding as refunds
-use Rattle.ph_refunds.specs.Refunds.{is_disputed, left_of, refund_amount, refund_by, refund_captured, refund_left, refund_of}
+use Rattle.ph_refunds.specs.Refunds.{is_disputed, left_of, refund_amount, refund_by, refund_left, refund_of}
 use Rattle.ph_refunds.specs.Entry.{refund_rows}
 use Rattle.ph_book.specs.Calls.{Upshot, Makes, Shows, Sets, and_opened, authenticated, called_at, carried, clock_set, created, found_outcome, is_key, is_platform, read_upshot, retrieved}
 use Rattle.ph_book.proofs.ErrorLemmas.{IsAnswered, IfRefused, answered, chosen, reading_answered}

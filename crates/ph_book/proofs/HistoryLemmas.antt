@@ -1,5 +1,5 @@
 -- One entry more, and what follows from it.
-use Rattle.std.proofs.Common.{◌≡◌, ℕ, ◌+◌, ◌^◌, ◌<◌, ◌≤◌, ◌↔◌, ◌∷◌, ◌++◌, Bool, true, false, List, [], length, Option, Some, None, refl, sym, ap, ◌∙◌, subst, length-append, arith, IsTrue}
+use Rattle.std.proofs.Common.{◌≡◌, ℕ, ◌+◌, ◌^◌, ◌<◌, ◌≤◌, ◌↔◌, ◌∷◌, ◌++◌, Bool, true, false, List, [], length, Option, refl, sym, ap, ◌∙◌, subst, length-append, arith, IsTrue}
 use Rattle.std.specs.List.{fold, flat_map, sum_by}
 use Rattle.std.proofs.lemmas.List.{append-nil}
 use Rattle.std.proofs.lemmas.List.Sums.{fold-append, sum_by-append}
@@ -19,8 +19,8 @@ use Rattle.ph_book.specs.declared.acts.Answer.TheVariants as answer
 use Rattle.ph_book.specs.Answers.{Says, replies_in}
 use Rattle.ph_book.specs.Entries.{IsWithinClock}
 use Rattle.ph_book.specs.Replies.{Said, Replies, Waits, Silence, replies_said}
-use Rattle.ph_book.specs.History.{Effect, Happening, opening_row, rows_after, time_after, attempts_after, effect_of, effect_after, happens, happening_of, and_then, past_of, rows_of, time_of, attempts_of, effect_to, said_to, replies_of}
-use Rattle.ph_book.specs.Legal.{EndsOwn, deed_weight, weight_after, used_after, is_full_at, is_full_after, is_full, IsAllowed, AreAllowed, IsLegal}
+use Rattle.ph_book.specs.History.{Happening, opening_row, rows_after, time_after, attempts_after, effect_of, happening_of, and_then, past_of, rows_of, time_of, attempts_of, effect_to, said_to, replies_of}
+use Rattle.ph_book.specs.Legal.{EndsOwn, deed_weight, weight_after, used_after, is_full_at, is_full_after, is_full, IsAllowed, AreAllowed}
 use Rattle.ph_book.specs.Runs.{after_step, live_of}
 use Rattle.ph_book.specs.State.{BookState, entered, IsBook}
 

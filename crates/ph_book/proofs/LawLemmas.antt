@@ -19,7 +19,7 @@ use Rattle.ph_book.specs.declared.setup.Setup.{Setup}
 use Rattle.ph_book.specs.declared.acts.Entry.{Entry}
 use Rattle.ph_book.specs.declared.acts.Deed.{Deed}
 use Rattle.ph_book.specs.declared.acts.Deed.TheVariants as deed
-use Rattle.ph_book.specs.History.{Happening, attempts_after, attempts_of, effect_after, finish_effect, happening_of, and_then, park_effect, past_of, rows_after, rows_of, time_after}
+use Rattle.ph_book.specs.History.{Happening, attempts_after, attempts_of, effect_after, finish_effect, happening_of, and_then, park_effect, rows_after, rows_of, time_after}
 use Rattle.ph_book.specs.Legal.{EndsOwn, raw_weight, weight_after, used_after, is_full_after, AreAllowed, IsLegal}
 use Rattle.ph_book.specs.Runs.{after_step, live_of}
 use Rattle.ph_book.specs.Laws.{id_of, HaveDifferentIds}

@@ -1,5 +1,5 @@
 -- The laws of money, of sound rows.
-use Rattle.std.proofs.Common.{◌≡◌, ℕ, ◌≤◌, ◌∷◌, Bool, true, false, cond, nat_le, nat_lt, List, [], Some, refl, sym, ap, ◌∙◌, subst, arith, ℤ, pos, ◌+ℤ◌, ◌≤ℤ◌}
+use Rattle.std.proofs.Common.{◌≡◌, ℕ, ◌≤◌, ◌∷◌, Bool, true, false, cond, nat_le, nat_lt, List, [], refl, subst, arith, ℤ, pos, ◌+ℤ◌, ◌≤ℤ◌}
 use Rattle.std.specs.List.{filter}
 use Rattle.std.proofs.lemmas.Bool.Decides.{nat_tests}
 use Rattle.std.proofs.lemmas.Int.{ints}
@@ -7,7 +7,7 @@ use Rattle.ph_rows.specs.declared.movements.Movement.{Movement}
 use Rattle.ph_rows.specs.declared.rows.Row.{Row}
 use Rattle.ph_rows.specs.Balances.{counts, movements_of, net_of}
 use Rattle.ph_rows.specs.Sound.{IsSound}
-use Rattle.ph_rows.specs.Transactions.{captured_of, refunded_of}
+use Rattle.ph_rows.specs.Transactions.{refunded_of}
 use Rattle.ph_rows.specs.Views.{ViewState}
 use Rattle.ph_book.specs.Laws.{BalancesAreSums, DisputesMoveOnce, RefundsFit}
 

@@ -1,7 +1,6 @@
 -- The rows and the time of every legal history are sound.
-use Rattle.std.proofs.Common.{◌≡◌, ℕ, ◌+◌, ◌^◌, ◌≤◌, ◌<◌, ◌∷◌, ◌++◌, max, Bool, true, false, cond, not, nat_lt, List, [], length, Option, Some, None, Result, Ok, Err, IfOk, refl, sym, ap, ◌∙◌, subst, length-append, arith}
+use Rattle.std.proofs.Common.{◌≡◌, ℕ, ◌+◌, ◌^◌, ◌≤◌, ◌<◌, ◌∷◌, ◌++◌, max, cond, not, nat_lt, List, [], length, Option, Some, None, Result, Ok, Err, IfOk, refl, sym, ap, subst, length-append, arith}
 use Rattle.std.specs.List.{fold}
-use Rattle.std.proofs.lemmas.Bool.Decides.{nat_tests}
 use Rattle.std.proofs.lemmas.List.{append-nil}
 use Rattle.ph_base.specs.declared.acquirer.Ruling.{Ruling}
 use Rattle.ph_base.specs.declared.acquirer.Why.{Why}
@@ -26,10 +25,9 @@ use Rattle.ph_rows.specs.Items.{attempt_in}
 use Rattle.ph_rows.specs.Kinds.{kind_of}
 use Rattle.ph_rows.specs.Names.{owned_named}
 use Rattle.ph_rows.specs.Rows.{latest_of}
-use Rattle.ph_rows.specs.Sound.{AreHeld, HaveMoves, HaveSums, IsInOrder, IsSound, MayFollow, clock_limit}
+use Rattle.ph_rows.specs.Sound.{AreHeld, HaveMoves, HaveSums, IsSound, MayFollow, clock_limit}
 use Rattle.ph_rows.specs.Views.{ViewState}
 use Rattle.ph_rows.proofs.AmountLemmas.{sums_beside}
-use Rattle.ph_rows.proofs.BatchLemmas.{Continues}
 use Rattle.ph_rows.proofs.EnterLemmas.{entered_sound}
 use Rattle.ph_rows.proofs.HeldLemmas.{held_beside}
 use Rattle.ph_rows.proofs.MoveLemmas.{moves_stay}
@@ -58,9 +56,9 @@ use Rattle.ph_book.specs.declared.setup.Setup.{Setup}
 use Rattle.ph_book.specs.declared.acts.Deed.{Deed}
 use Rattle.ph_book.specs.declared.acts.Deed.TheVariants as deed
 use Rattle.ph_book.specs.declared.acts.Entry.{Entry}
-use Rattle.ph_book.specs.Calls.{Upshot, Makes, Shows, Sets, and_opened, authenticated, called_at, carried, clock_set, created, found_outcome, is_key, is_platform, read_upshot, retrieved}
+use Rattle.ph_book.specs.Calls.{Upshot, Makes, Shows, Sets, and_opened, authenticated, called_at, carried, clock_set, found_outcome, is_key, is_platform, read_upshot}
 use Rattle.ph_book.specs.Entries.{IsWithinClock}
-use Rattle.ph_book.specs.History.{Effect, Happening, added_effect, and_then, attempts_after, call_effect, effect_after, effect_of, finish_effect, happening_of, opening_row, outcome_effect, outcome_rows, park_effect, parked_by, parked_from, parked_rows, past_of, rows_after, ruled_outcome, time_after, view_of, rows_of, time_of}
+use Rattle.ph_book.specs.History.{Effect, Happening, added_effect, and_then, attempts_after, call_effect, effect_of, finish_effect, happening_of, opening_row, outcome_effect, outcome_rows, park_effect, parked_by, parked_from, rows_after, ruled_outcome, time_after, view_of, rows_of, time_of}
 use Rattle.ph_book.specs.Legal.{AreAllowed, IsLegal, used_after}
 use Rattle.ph_book.specs.Runs.{live_of, run_in}
 use Rattle.ph_book.proofs.EffectLemmas.{AreCounted, IsSettled, counted_more, first_counted, ruled_settled, ruling_settled}

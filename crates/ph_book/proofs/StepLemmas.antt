@@ -1,12 +1,11 @@
 -- What a book keeps after one step more: a call, a ruling, a park.
-use Rattle.std.proofs.Common.{◌≡◌, ℕ, ◌+◌, ◌*◌, ◌^◌, ◌<◌, ◌≤◌, max, ◌∷◌, ◌++◌, Bool, true, false, List, [], length, Option, Some, None, find, refl, sym, ap, ◌∙◌, subst, arith}
+use Rattle.std.proofs.Common.{◌≡◌, ℕ, ◌+◌, ◌*◌, ◌^◌, ◌<◌, ◌≤◌, max, ◌∷◌, ◌++◌, Bool, false, List, [], length, Option, Some, None, find, refl, sym, ap, ◌∙◌, subst, arith}
 use Rattle.ph_base.specs.declared.acquirer.Ruling.{Ruling}
 use Rattle.ph_base.specs.declared.acquirer.Why.{Why}
 use Rattle.ph_attempts.specs.declared.flights.Attempt as flights
 use Rattle.ph_attempts.specs.declared.flights.Attempt.TheVariants.{Live}
 use Rattle.ph_attempts.specs.declared.flights.Flight.{Flight}
 use Rattle.ph_attempts.specs.Attempts.{Step, Begins, Parks, Settles, after, entry_of}
-use Rattle.ph_rows.specs.declared.orders.Order.{Order}
 use Rattle.ph_rows.specs.declared.rows.Row.{Row}
 use Rattle.ph_rows.specs.declared.attempts.Attempt.{Attempt}
 use Rattle.ph_rows.specs.Batches.{empty_batch}
@@ -15,24 +14,22 @@ use Rattle.ph_rows.specs.Rows.{latest_of}
 use Rattle.ph_rows.specs.Sound.{clock_limit}
 use Rattle.ph_rows.specs.Weights.{rows_weight}
 use Rattle.ph_http.specs.declared.message.Raw.{Raw}
-use Rattle.ph_http.specs.declared.message.Reply.{Reply}
 use Rattle.ph_book.specs.declared.setup.Setup.{Setup}
 use Rattle.ph_book.specs.declared.acts.Entry.{Entry}
-use Rattle.ph_book.specs.declared.acts.Deed.{Deed}
 use Rattle.ph_book.specs.declared.acts.Deed.TheVariants as deed
 use Rattle.ph_book.specs.declared.calls.Called.{Called}
 use Rattle.ph_book.specs.Called.{IsCalled}
 use Rattle.ph_book.specs.Calls.{called_at}
 use Rattle.ph_book.specs.Entries.{call_entry, finish_entry, park_entry, tick_entry}
-use Rattle.ph_book.specs.History.{Effect, attempts_of, call_effect, effect_of, effect_to, finish_effect, park_effect, parked_by, parked_from, parked_rows, rows_of, said_to, tick_effect, time_of}
-use Rattle.ph_book.specs.Legal.{deed_weight, is_full, raw_weight}
+use Rattle.ph_book.specs.History.{Effect, attempts_of, call_effect, effect_of, effect_to, finish_effect, park_effect, parked_by, parked_from, parked_rows, said_to, tick_effect, time_of}
+use Rattle.ph_book.specs.Legal.{is_full, raw_weight}
 use Rattle.ph_book.specs.Replies.{Silence}
 use Rattle.ph_book.specs.Runs.{after_step, is_run, live_of, run_in}
 use Rattle.ph_book.specs.State.{BookState, IsBook}
 use Rattle.ph_book.specs.Tickets.{Holds}
 use Rattle.ph_book.proofs.EffectLemmas.{effect_later, effect_orderly, history_counted}
 use Rattle.ph_book.proofs.HistoryLemmas.{book_more, effect_is, may_come}
-use Rattle.ph_book.proofs.RunLemmas.{AreKept, IsNext, entry_of_run, found_begun, found_is, live_begun, live_parked, live_settled, none_above}
+use Rattle.ph_book.proofs.RunLemmas.{AreKept, IsNext, entry_of_run, found_begun, live_begun, live_parked, live_settled, none_above}
 
 -- the attempts that a book keeps are those of a history
 kept_of : (setup : Setup) (history : List Entry) (rows : List Row) (time weight : ℕ) (attempts : List flights.Attempt) (live : ℕ)

@@ -1,11 +1,9 @@
 -- The balances of a ledger are those of all rows.
 use Rattle.std.proofs.Common.{◌≡◌, ℕ, Bool, ℤ, List, ap, ◌∙◌}
-use Rattle.std.specs.List.{filter}
 use Rattle.ph_money.specs.declared.currencies.Currency.{Currency}
 use Rattle.ph_rows.specs.declared.rows.Row.{Row}
 use Rattle.ph_rows.specs.Balances.{balance_of}
 use Rattle.ph_rows.specs.Views.{ListState}
-use Rattle.ph_ledger.specs.Steps.{is_txn}
 use Rattle.ph_ledger.proofs.LedgerLemmas.{transactions_count}
 use Rattle.ph_book.specs.Stores.{IsLedgerOf, store_state}
 

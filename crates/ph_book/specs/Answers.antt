@@ -1,7 +1,5 @@
 -- Answers of a book.
 use Rattle.std.specs.Prelude.{◌≡◌, ◌≢◌, ℕ, List, [], ◌∷◌, IsTrue}
-use Rattle.ph_attempts.specs.declared.flights.Flight.{Flight}
-use Rattle.ph_rows.specs.declared.orders.Order.{Order}
 use Rattle.ph_http.specs.declared.message.Reply.{Reply}
 use Rattle.ph_http.specs.Replies.{is_status}
 use Rattle.ph_book.specs.declared.acts.Act.{Act}

@@ -1,5 +1,5 @@
 -- Replies, and what is said to an entry.
-use Rattle.std.specs.Prelude.{ℕ, true, false, List, [], ◌∷◌, Option, Some, None, codes}
+use Rattle.std.specs.Prelude.{ℕ, false, List, [], ◌∷◌, Option, Some, None, codes}
 use Rattle.ph_base.specs.declared.acquirer.Decline.{Decline}
 use Rattle.ph_base.specs.declared.acquirer.Ruling.{Ruling}
 use Rattle.ph_base.specs.declared.acquirer.Ruling.TheVariants as ruling

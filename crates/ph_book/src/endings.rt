@@ -1,6 +1,5 @@
 //! What the end of a run comes to.
-ghost use Rattle.std.specs.Prelude.{◌≡◌, ℕ, length, IfOk, option_to_list};
-ghost use Rattle.ph_rows.specs.Items.{attempt_in};
+ghost use Rattle.std.specs.Prelude.{◌≡◌, ℕ, IfOk, option_to_list};
 ghost use Rattle.ph_book.specs.History.{outcome_rows, parked_rows, ruled_outcome};
 ghost use Rattle.ph_book.specs.Replies.{ruling_reply};
 

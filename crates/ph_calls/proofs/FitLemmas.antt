@@ -1,5 +1,5 @@
 -- The texts of each call that is read are UTF-8, and a clock is set to a time that a clock shows.
-use Rattle.std.proofs.Common.{◌≡◌, ℕ, ◌+◌, ◌≤◌, ◌==◌, ◌&&◌, Bool, true, false, cond, List, [], ◌∷◌, length, map, filter, find, Option, Some, None, option_map, option_and_then, Result, Ok, Err, IfOk, IfSome, nat_lt, unwrap_or, codes, bytes_eq, refl, subst, arith}
+use Rattle.std.proofs.Common.{◌≡◌, ℕ, ◌≤◌, ◌==◌, ◌&&◌, Bool, true, false, cond, List, [], ◌∷◌, length, map, find, Option, Some, None, option_map, option_and_then, Result, Ok, Err, IfOk, IfSome, nat_lt, unwrap_or, codes, bytes_eq, refl, arith}
 use Rattle.std.proofs.lemmas.Bool.Decides.{nat_tests}
 use Rattle.std.proofs.lemmas.Str.{IsUtf8-nil, is_utf8-from_IsUtf8}
 use Rattle.std.specs.List.{list_all}
@@ -7,23 +7,22 @@ use Rattle.std.specs.Result.{result_ok}
 use Rattle.std.specs.Str.{is_utf8}
 use Rattle.ph_base.specs.declared.acquirer.Method.{Method}
 use Rattle.ph_errors.specs.declared.api_error.ApiError.{ApiError}
-use Rattle.ph_errors.specs.Table.{UnrecognizedUrl, ParameterInvalidInteger, error_of}
+use Rattle.ph_errors.specs.Table.{ParameterInvalidInteger, error_of}
 use Rattle.ph_form.specs.declared.fault.FormFault.{FormFault}
 use Rattle.ph_form.specs.declared.leaf.Leaf.{Leaf}
 use Rattle.ph_form.specs.Leaves.{leaves_of}
 use Rattle.ph_form.specs.Names.{is_below}
 use Rattle.ph_form.specs.Order.{is_leaf_utf8, put, put_all}
 use Rattle.ph_form.specs.Pairs.{pairs_in}
-use Rattle.ph_form.specs.Readers.{below, entries_at, entries_with, entry_of, is_child, text_at}
+use Rattle.ph_form.specs.Readers.{below, entries_at, entry_of, is_child, text_at}
 use Rattle.ph_form.proofs.MapLemmas.{all_put, first_of_all, rest_of_all}
 use Rattle.ph_form.proofs.Utf8Lemmas.{entry_utf8}
 use Rattle.ph_http.specs.declared.message.Raw.{Raw}
 use Rattle.ph_kinds.specs.declared.flaw.Flaw.{Flaw}
 use Rattle.ph_kinds.specs.declared.flaw.Flaw.TheVariants.{InvalidValue}
-use Rattle.ph_kinds.specs.declared.metadata.Meta.{Meta}
 use Rattle.ph_kinds.specs.declared.metadata.Meta.TheVariants.{Clear, Set}
 use Rattle.ph_kinds.specs.Kept.{named_texts, pair_texts}
-use Rattle.ph_kinds.specs.Metadata.{cleared_in, is_metadata, metadata_in, pair_of}
+use Rattle.ph_kinds.specs.Metadata.{is_metadata, metadata_in, pair_of}
 use Rattle.ph_kinds.specs.Methods.{method_in}
 use Rattle.ph_kinds.specs.Values.{metadata_at, metadata_by, named_by, payment_method_at, payment_method_in}
 use Rattle.ph_rows.specs.Sound.{clock_limit}
@@ -32,9 +31,8 @@ use Rattle.ph_calls.specs.declared.call.Call.{Call}
 use Rattle.ph_calls.specs.declared.call.Call.TheVariants as call
 use Rattle.ph_calls.specs.declared.row.Name.{Name}
 use Rattle.ph_calls.specs.declared.row.Name.TheVariants as name
-use Rattle.ph_calls.specs.Check.{error_in, first_that_holds}
+use Rattle.ph_calls.specs.Check.{error_in}
 use Rattle.ph_calls.specs.Clock.{set_clock, set_clock_error}
-use Rattle.ph_calls.specs.Disputes.{send_evidence}
 use Rattle.ph_calls.specs.Fit.{IsFit}
 use Rattle.ph_calls.specs.Intents.{create_intent, create_intent_error}
 use Rattle.ph_calls.specs.Keeps.{AreUtf8}

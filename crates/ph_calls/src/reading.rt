@@ -1,7 +1,5 @@
 //! Reading a request as a call.
 ghost use Rattle.std.specs.Prelude.{◌≡◌, IfErr, IfOk, Ok, Err};
-ghost use Rattle.ph_form.specs.Leaves.{leaves_of};
-ghost use Rattle.ph_form.specs.Pairs.{pairs_in};
 ghost use Rattle.ph_calls.specs.Reading.{Refuses, call_of, reading_by, reading_of, unless_error};
 ghost use Rattle.ph_calls.specs.Table.{line_of};
 

@@ -1,7 +1,7 @@
 //! The row of the table that a request is of.
 ghost use Rattle.std.specs.Prelude.{◌≡◌, ◌==◌, option_copied};
 ghost use Rattle.std.specs.List.{list_any};
-ghost use Rattle.ph_calls.specs.Routes.{between, id_at, id_by, route_in, route_of, segment_in};
+ghost use Rattle.ph_calls.specs.Routes.{between, id_at, id_by, route_in, route_of};
 ghost use Rattle.ph_calls.specs.Table.{line_of, place, table};
 
 use crate::row::{Path, TableRow};

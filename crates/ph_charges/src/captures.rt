@@ -1,5 +1,5 @@
 //! What a capture adds beside the payment intent's own version.
-ghost use Rattle.std.specs.Prelude.{◌≡◌, OnOk, IfOk};
+ghost use Rattle.std.specs.Prelude.{◌≡◌, OnOk};
 ghost use Rattle.ph_charges.specs.Captures.{capture_of};
 
 use crate::charges::add_captured;

@@ -33,7 +33,7 @@ use Rattle.ph_conn.specs.Reads.{Fetches, request_items, told_end}
 use Rattle.ph_conn.specs.Sends.{Parts, Closes, Sends}
 use Rattle.ph_conn.specs.Served.{Halt, Stopped, AtCut, Open, served, halt_of, replies_text, next_line, output}
 use Rattle.ph_conn.specs.Session as session
-use Rattle.ph_conn.specs.Session.{Session, NextIsFull, EndsOut, RunsOut, Loses, Writing, Replying, Refusing, Filling, RunningOut}
+use Rattle.ph_conn.specs.Session.{Session, NextIsFull, EndsOut, RunsOut, Replying, Refusing, Filling, RunningOut}
 use Rattle.ph_conn.specs.Texts.{line_for, tail_text, last_words}
 use Rattle.ph_conn.specs.declared.answers.Outcome.{Outcome}
 use Rattle.ph_conn.specs.declared.answers.Outcome.TheVariants as outcome

@@ -1,5 +1,4 @@
 //! One request: its call, and the run of it.
-ghost use Rattle.std.specs.Prelude.{◌≡◌};
 ghost use Rattle.ph_book.specs.Tickets.{Holds};
 ghost use Rattle.ph_conn.specs.Answers.{Answers, Calls, Ended, Finishes, Settles};
 ghost use Rattle.ph_conn.specs.Parts.{GivenUp};

@@ -1,6 +1,6 @@
 -- What a capture adds may be entered after sound rows.
 use Rattle.std.specs.Prelude.{option_and_then}
-use Rattle.std.proofs.Common.{◌≡◌, ℕ, ◌+◌, ◌≤◌, ◌==◌, ◌||◌, false, nat_lt, List, [], ◌∷◌, ◌++◌, Option, None, Some, length, refl, sym, ap, ◌∙◌, subst, arith, codes, unwrap_or}
+use Rattle.std.proofs.Common.{◌≡◌, ℕ, ◌≤◌, ◌==◌, ◌||◌, false, nat_lt, [], ◌∷◌, ◌++◌, Option, None, Some, refl, sym, ap, ◌∙◌, subst, arith, codes, unwrap_or}
 use Rattle.std.proofs.lemmas.Bool.{cond_both}
 use Rattle.std.proofs.lemmas.Bool.Decides.{nat_tests}
 use Rattle.ph_charges.specs.Charges.{with_captured}
@@ -12,7 +12,6 @@ use Rattle.ph_rows.specs.declared.event_kinds.EventKind.TheVariants as event
 use Rattle.ph_rows.specs.declared.intents.Intent.{Intent}
 use Rattle.ph_rows.specs.declared.intents.IntentStatus.{IntentStatus}
 use Rattle.ph_rows.specs.declared.intents.IntentStatus.TheVariants as status
-use Rattle.ph_rows.specs.declared.items.Item.{Item}
 use Rattle.ph_rows.specs.declared.items.Item.TheVariants as item
 use Rattle.ph_rows.specs.Batches.{BatchState, next_row, with_row, with_announced}
 use Rattle.ph_rows.specs.Entering.{MayBeEntered}
@@ -21,7 +20,6 @@ use Rattle.ph_rows.specs.Kinds.{kind_of}
 use Rattle.ph_rows.specs.Rows.{latest_of}
 use Rattle.ph_rows.specs.Sound.{HaveSums, Holds, IsHeldBy, charge_of}
 use Rattle.ph_rows.specs.Views.{ViewState}
-use Rattle.ph_rows.proofs.BatchLemmas.{IsFurtherOf, MayStand}
 use Rattle.ph_rows.proofs.ChargeLemmas.{second_fails}
 use Rattle.ph_rows.proofs.HeldLemmas.{AllLeave, another_is_apart, held_known}
 use Rattle.ph_rows.proofs.UnderwayLemmas.{IsUnderway, underway_further, underway_told}
@@ -33,7 +31,7 @@ use Rattle.ph_intents.specs.Versions.{adds_told, with_told}
 use Rattle.ph_intents.specs.declared.statuses.Step.TheVariants as step
 use Rattle.ph_intents.proofs.EnterLemmas.{begins, enters, last_version}
 use Rattle.ph_intents.proofs.FoundLemmas.{IsFound, found_texts, keeps_allowed, keeps_at}
-use Rattle.ph_intents.proofs.HoldLemmas.{HasCharge, charge_row}
+use Rattle.ph_intents.proofs.HoldLemmas.{charge_row}
 use Rattle.ph_intents.proofs.StatusLemmas.{captured_step}
 
 -- a capture of a charge that holds a payment intent, of no more than can be captured

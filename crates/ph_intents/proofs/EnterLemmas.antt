@@ -1,6 +1,6 @@
 -- What a call adds may be entered: a version of a payment intent, told or with an attempt.
 use Rattle.std.specs.Prelude.{option_and_then}
-use Rattle.std.proofs.Common.{◌≡◌, ℕ, ◌+◌, ◌^◌, ◌≤◌, ◌<◌, false, cond, eqb, List, [], ◌∷◌, ◌++◌, Option, None, Some, length, refl, sym, ap, ◌∙◌, arith}
+use Rattle.std.proofs.Common.{◌≡◌, ℕ, ◌+◌, ◌≤◌, false, eqb, List, [], ◌∷◌, ◌++◌, None, Some, length, refl, sym, ap, ◌∙◌, arith}
 use Rattle.std.specs.List.{list_any}
 use Rattle.std.proofs.lemmas.Bool.{cond-false, ne_eqb}
 use Rattle.std.proofs.lemmas.List.{append_assoc}
@@ -15,7 +15,7 @@ use Rattle.ph_rows.specs.declared.intents.Intent.{Intent}
 use Rattle.ph_rows.specs.declared.intents.IntentStatus.TheVariants as status
 use Rattle.ph_rows.specs.declared.items.Item.{Item}
 use Rattle.ph_rows.specs.declared.items.Item.TheVariants as item
-use Rattle.ph_rows.specs.Batches.{BatchState, last_place, next_row, with_row, with_announced}
+use Rattle.ph_rows.specs.Batches.{BatchState, last_place, next_row, with_row}
 use Rattle.ph_rows.specs.Entering.{MayBeEntered}
 use Rattle.ph_rows.specs.Kinds.{kind_of}
 use Rattle.ph_rows.specs.Rows.{later_version, latest_of}
@@ -24,7 +24,6 @@ use Rattle.ph_rows.specs.Views.{ViewState}
 use Rattle.ph_rows.specs.Weights.{texts_of}
 use Rattle.ph_rows.specs.Words.{subject_of}
 use Rattle.ph_rows.proofs.AmountLemmas.{latest_of-last}
-use Rattle.ph_rows.proofs.BatchLemmas.{MayStand}
 use Rattle.ph_rows.proofs.ChargeLemmas.{sums_stay, touches}
 use Rattle.ph_rows.proofs.HeldLemmas.{AllLeave, held_known, held_of_others}
 use Rattle.ph_rows.proofs.MoveLemmas.{is_of_dispute, moves_stay}

@@ -1,6 +1,6 @@
 -- A payment intent that is found among sound rows, and what an operation on it may add.
 use Rattle.std.specs.Prelude.{option_and_then}
-use Rattle.std.proofs.Common.{◌≡◌, ℕ, ◌+◌, ◌^◌, ◌≤◌, ◌<◌, List, Option, None, Some, length, refl, sym, ap, ◌∙◌, subst, arith}
+use Rattle.std.proofs.Common.{◌≡◌, ℕ, ◌≤◌, List, Option, None, Some, length, refl, sym, ap, subst, arith}
 use Rattle.ph_base.specs.declared.acquirer.Method.{Method}
 use Rattle.ph_base.specs.declared.ids.Kind.TheVariants as kind
 use Rattle.ph_calls.specs.Outcomes.{Outcome}
@@ -16,11 +16,10 @@ use Rattle.ph_rows.specs.Items.{intent_in}
 use Rattle.ph_rows.specs.Kinds.{kind_of}
 use Rattle.ph_rows.specs.Names.{owned_named}
 use Rattle.ph_rows.specs.Rows.{row_at, latest_of}
-use Rattle.ph_rows.specs.Sound.{Holds, IsHeldBy, IsSound, charge_of}
+use Rattle.ph_rows.specs.Sound.{IsHeldBy, IsSound, charge_of}
 use Rattle.ph_rows.specs.Views.{ViewState}
 use Rattle.ph_rows.specs.Weights.{texts_of}
 use Rattle.ph_rows.specs.Words.{subject_of}
-use Rattle.ph_rows.proofs.BatchLemmas.{IsFurtherOf, MayStand}
 use Rattle.ph_rows.proofs.FoundLemmas.{owned_found}
 use Rattle.ph_rows.proofs.SoundLemmas.{row_at_within}
 use Rattle.ph_rows.proofs.UnderwayLemmas.{IsUnderway, underway_further}
@@ -28,7 +27,7 @@ use Rattle.ph_intents.specs.Attempts.{attempted}
 use Rattle.ph_intents.specs.Keeps.{AddsSound, AreUtf8, IsReady, batch_after}
 use Rattle.ph_intents.specs.Refusals.{made_of, made_of_row, made_at, if_allowed}
 use Rattle.ph_intents.specs.Versions.{adds_told, with_version}
-use Rattle.ph_intents.proofs.EnterLemmas.{Waits, attempted_enters, begins, told_enters, version_enters}
+use Rattle.ph_intents.proofs.EnterLemmas.{Waits, attempted_enters, begins, told_enters}
 
 -- a row that stands is the present version of a payment intent of the account
 pub record IsFound (state : ViewState) (account : ℕ) (row : Row) (intent : Intent) : Type 0 where

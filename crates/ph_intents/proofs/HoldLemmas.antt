@@ -1,8 +1,8 @@
 -- Charges stay as they are, and hold what they held, with rows of which none is a version of a charge.
-use Rattle.std.specs.Prelude.{◌==◌, ◌||◌, option_and_then}
-use Rattle.std.proofs.Common.{◌≡◌, ℕ, Bool, true, false, eqb, List, [], ◌∷◌, ◌++◌, Option, None, Some, refl, sym, ap, ◌∙◌, subst}
+use Rattle.std.specs.Prelude.{◌||◌, option_and_then}
+use Rattle.std.proofs.Common.{◌≡◌, ℕ, Bool, false, List, [], ◌∷◌, ◌++◌, Option, None, Some, refl, sym, ap, ◌∙◌, subst}
 use Rattle.std.specs.List.{list_any}
-use Rattle.std.proofs.lemmas.Bool.{eqb-true, eqb-false, ne_eqb}
+use Rattle.std.proofs.lemmas.Bool.{ne_eqb}
 use Rattle.std.proofs.lemmas.List.{append_assoc}
 use Rattle.ph_base.specs.declared.ids.Kind.TheVariants as kind
 use Rattle.ph_rows.specs.declared.rows.Row.{Row}
@@ -10,14 +10,13 @@ use Rattle.ph_rows.specs.declared.charges.Charge.{Charge}
 use Rattle.ph_rows.specs.declared.items.Item.{Item}
 use Rattle.ph_rows.specs.declared.items.Item.TheVariants as item
 use Rattle.ph_rows.specs.declared.intents.Intent.{Intent}
-use Rattle.ph_rows.specs.declared.intents.IntentStatus.TheVariants as status
 use Rattle.ph_rows.specs.Items.{charge_in}
 use Rattle.ph_rows.specs.Kinds.{kind_of}
 use Rattle.ph_rows.specs.Rows.{row_at, latest_of}
-use Rattle.ph_rows.specs.Sound.{AllMayFollow, AreHeld, HasBegun, IsHeldAt, IsHeldBy, IsInOrder, charge_of, with_next}
+use Rattle.ph_rows.specs.Sound.{AllMayFollow, HasBegun, IsHeldBy, IsInOrder, charge_of, with_next}
 use Rattle.ph_rows.specs.Views.{ViewState}
-use Rattle.ph_rows.proofs.HeldLemmas.{held_stays, is_version, latest_of-apart}
-use Rattle.ph_rows.proofs.SoundLemmas.{latest_of_order, order_with_all, row_at-before}
+use Rattle.ph_rows.proofs.HeldLemmas.{is_version, latest_of-apart}
+use Rattle.ph_rows.proofs.SoundLemmas.{latest_of_order, row_at-before}
 
 -- something holds of each row
 abbrev pub Each : (Row → Type 0) → List Row → Type 0

@@ -1,9 +1,9 @@
 -- What each call adds may be entered after sound rows.
-use Rattle.std.proofs.Common.{◌≡◌, ℕ, ◌+◌, ◌==◌, ◌||◌, cond, nat_lt, List, [], Option, None, Some, length, refl, codes, unwrap_or, arith}
+use Rattle.std.proofs.Common.{◌≡◌, ℕ, ◌+◌, cond, nat_lt, List, [], Option, None, Some, length, refl, codes, arith}
 use Rattle.std.proofs.lemmas.Bool.{cond_both}
 use Rattle.std.specs.Option.{option_or}
 use Rattle.ph_base.specs.declared.acquirer.Method.TheVariants as method
-use Rattle.ph_calls.specs.Outcomes.{Outcome, Refuses, Adds}
+use Rattle.ph_calls.specs.Outcomes.{Refuses, Adds}
 use Rattle.ph_calls.specs.declared.call.CreateIntent.{CreateIntent}
 use Rattle.ph_calls.specs.declared.call.UpdateIntent.{UpdateIntent}
 use Rattle.ph_errors.specs.Table.{error_of, AmountTooSmall}
@@ -28,7 +28,6 @@ use Rattle.ph_intents.specs.Create.{new_intent, first_status, create_outcome, cr
 use Rattle.ph_intents.specs.Keeps.{AddsSound, AreUtf8, KeepsSound, batch_after, create_texts, update_texts, confirm_texts, no_texts}
 use Rattle.ph_kinds.specs.Kept.{first_metadata, named_texts}
 use Rattle.ph_kinds.proofs.KeptLemmas.{first_kept}
-use Rattle.ph_intents.specs.Metadata.{merged_metadata}
 use Rattle.ph_intents.specs.Refusals.{invalid_value}
 use Rattle.ph_intents.specs.Statuses.{next_status}
 use Rattle.ph_intents.specs.Update.{most_keys, step_of, update_with, update_of, updated_intent, update_outcome}

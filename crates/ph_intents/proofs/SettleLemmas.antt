@@ -6,7 +6,7 @@ use Rattle.std.proofs.lemmas.List.{append-nil}
 use Rattle.ph_base.specs.declared.acquirer.Ruling.{Ruling}
 use Rattle.ph_base.specs.declared.acquirer.Ruling.TheVariants as ruling
 use Rattle.ph_base.specs.declared.ids.Kind.TheVariants as kind
-use Rattle.ph_charges.specs.Approvals.{approval_of, charge_number, decline_of, with_approved}
+use Rattle.ph_charges.specs.Approvals.{charge_number, decline_of, with_approved}
 use Rattle.ph_charges.specs.Charges.{new_charge, with_captured}
 use Rattle.ph_charges.proofs.EntryLemmas.{approval_underway, decline_underway}
 use Rattle.ph_charges.proofs.SumLemmas.{approval_keeps, decline_keeps}
@@ -23,23 +23,22 @@ use Rattle.ph_rows.specs.declared.intents.IntentStatus.TheVariants as status
 use Rattle.ph_rows.specs.declared.intents.PaymentError.TheVariants as payment_error
 use Rattle.ph_rows.specs.declared.items.Item.{Item}
 use Rattle.ph_rows.specs.declared.items.Item.TheVariants as item
-use Rattle.ph_rows.specs.Batches.{BatchState, last_place, next_row, with_row, with_announced}
+use Rattle.ph_rows.specs.Batches.{BatchState, next_row, with_row, with_announced}
 use Rattle.ph_rows.specs.Entering.{MayBeEntered}
 use Rattle.ph_rows.specs.Items.{attempt_in, charge_in, intent_in}
 use Rattle.ph_rows.specs.Kinds.{kind_of}
 use Rattle.ph_rows.specs.Rows.{row_at, latest_of}
-use Rattle.ph_rows.specs.Sound.{AreHeld, HaveMoves, HaveSums, IsHeldBy, IsInOrder, IsSound, charge_of}
+use Rattle.ph_rows.specs.Sound.{AreHeld, HaveMoves, HaveSums, IsHeldBy, IsSound, charge_of}
 use Rattle.ph_rows.specs.Views.{ViewState}
 use Rattle.ph_rows.specs.Weights.{texts_of}
 use Rattle.ph_rows.specs.Words.{subject_of}
-use Rattle.ph_rows.proofs.BatchLemmas.{IsFurtherOf, MayStand}
 use Rattle.ph_rows.proofs.ChargeLemmas.{neither_part, sums_stay, touches}
 use Rattle.ph_rows.proofs.HeldLemmas.{AllLeave, IsApart, Leaves, held_known, later_is_loose}
 use Rattle.ph_rows.proofs.MoveLemmas.{is_of_dispute}
 use Rattle.ph_rows.proofs.SoundLemmas.{latest_of_sound, row_at_within}
 use Rattle.ph_rows.proofs.UnderwayLemmas.{IsUnderway, underway_further, underway_told}
 use Rattle.ph_intents.specs.Keeps.{AddsSound, AreUtf8, IsReady, SettleKeepsSound, batch_after}
-use Rattle.ph_intents.specs.Settle.{settled_attempt, approved_intent, approved_event, charge_after, ruled_intent, settled_intent, settled_event, settle_both, settle_intent, settle_attempt, settle_row, with_charge, with_latest_charge, with_ruling, with_settled}
+use Rattle.ph_intents.specs.Settle.{settled_attempt, approved_intent, approved_event, settled_intent, settle_both, settle_intent, settle_attempt, settle_row, with_latest_charge, with_settled}
 use Rattle.ph_intents.specs.Versions.{with_told}
 use Rattle.ph_intents.proofs.EnterLemmas.{begins, enters, last_version, other_version}
 use Rattle.ph_intents.proofs.KeepsLemmas.{failed_texts}

@@ -1,12 +1,12 @@
 -- Which steps lead to a payment intent that waits for its capture, and which from one.
 use Rattle.std.proofs.Common.{◌≡◌, ℕ, zero, suc, Bool, true, false, List, [], ◌∷◌, Option, None, Some, refl, sym, ap, ◌∙◌}
-use Rattle.std.specs.Prelude.{◌||◌, get_or}
+use Rattle.std.specs.Prelude.{get_or}
 use Rattle.std.specs.List.{list_any}
 use Rattle.std.proofs.lemmas.Bool.{false≢true}
 use Rattle.ph_rows.specs.declared.intents.IntentStatus.{IntentStatus}
 use Rattle.ph_rows.specs.declared.intents.IntentStatus.TheVariants as status
 use Rattle.ph_rows.proofs.ChargeLemmas.{first_fails, second_fails}
-use Rattle.ph_intents.specs.Statuses.{table, line_number, column_number, next_status}
+use Rattle.ph_intents.specs.Statuses.{table, column_number, next_status}
 use Rattle.ph_intents.specs.declared.statuses.Step.{Step}
 use Rattle.ph_intents.specs.declared.statuses.Step.TheVariants as step
 

@@ -1,18 +1,15 @@
 -- Texts that are UTF-8, and what keeps them so.
-use Rattle.std.proofs.Common.{◌≡◌, ℕ, Bool, true, false, ◌&&◌, not, List, [], ◌∷◌, Option, None, Some, refl}
-use Rattle.std.proofs.lemmas.Bool.{cond_both, false≢true}
-use Rattle.std.specs.List.{list_all}
+use Rattle.std.proofs.Common.{◌≡◌, ℕ, true, not, List, [], ◌∷◌, Option, None, Some, refl}
+use Rattle.std.proofs.lemmas.Bool.{cond_both}
 use Rattle.std.specs.Option.{option_or}
 use Rattle.std.specs.Str.{is_utf8, bytes_eq}
-use Rattle.std.specs.declared.cmp.Ordering.{Ordering}
-use Rattle.std.specs.declared.cmp.Ordering.TheVariants.{Less, Equal, Greater}
 use Rattle.ph_kinds.specs.declared.metadata.Meta.{Meta}
 use Rattle.ph_kinds.specs.declared.metadata.Meta.TheVariants as meta
 use Rattle.ph_kinds.specs.Kept.{named_texts, pair_texts}
 use Rattle.ph_kinds.proofs.KeptLemmas.{and, first_text, pair_put}
 use Rattle.ph_rows.specs.declared.metadata_pairs.MetadataPair.{MetadataPair}
 use Rattle.ph_rows.specs.declared.payment_methods.PaymentMethod.{PaymentMethod}
-use Rattle.ph_rows.specs.Metadata.{with_pair, without_pair}
+use Rattle.ph_rows.specs.Metadata.{without_pair}
 use Rattle.ph_rows.specs.Weights.{with_text, method_text, metadata_texts}
 use Rattle.ph_calls.specs.Keeps.{AreUtf8}
 use Rattle.ph_intents.specs.Metadata.{with_change, with_changes, merged_metadata}

@@ -1,5 +1,4 @@
 //! The calls that begin an attempt.
-ghost use Rattle.std.specs.Prelude.{◌≡◌};
 ghost use Rattle.ph_calls.specs.Outcomes.{Gives};
 ghost use Rattle.ph_intents.specs.Begin.{begin_outcome};
 

@@ -1,5 +1,5 @@
 //! The refusals that the operations share.
-ghost use Rattle.std.specs.Prelude.{◌≡◌, codes};
+ghost use Rattle.std.specs.Prelude.{codes};
 ghost use Rattle.ph_errors.specs.Table.{AmountTooSmall, InvalidValue, NoSuchObject, ParameterMissing, UnexpectedState};
 ghost use Rattle.ph_intents.specs.Refusals.{IsRefusal};
 

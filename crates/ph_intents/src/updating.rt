@@ -1,6 +1,5 @@
 //! The update.
 ghost use Rattle.std.specs.Prelude.{◌≡◌, IfOk};
-ghost use Rattle.std.specs.Option.{option_copied, option_or};
 ghost use Rattle.ph_calls.specs.Outcomes.{Gives};
 ghost use Rattle.ph_intents.specs.Update.{step_by, step_of, update_of, update_outcome, update_with, updated_intent};
 

@@ -3,7 +3,6 @@ ghost use Rattle.std.specs.Prelude.{◌≡◌, IfOk, option_map};
 ghost use Rattle.ph_views.specs.Charges.{charge_doc, charge_amount_members, charge_name_members, charge_progress_members, charge_payment_members, failure_code, is_paid, is_refunded, transaction_of};
 ghost use Rattle.ph_errors.specs.Names.{code_name};
 ghost use Rattle.ph_json.specs.Values.{text_or_null};
-ghost use Rattle.ph_rows.specs.Weights.{method_text};
 
 use crate::values;
 use ph_base::{Kind, NoMemory};

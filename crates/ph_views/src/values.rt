@@ -1,5 +1,5 @@
 //! The values that the documents of objects share.
-ghost use Rattle.std.specs.Prelude.{◌≡◌, pos, min, ◌-◌, ◌^◌, IfOk};
+ghost use Rattle.std.specs.Prelude.{◌≡◌, min, ◌-◌, IfOk};
 ghost use Rattle.ph_rows.specs.Weights.{method_text};
 ghost use Rattle.ph_json.specs.Values.{text_or_null};
 ghost use Rattle.ph_views.specs.Values.{moment_doc, printed_id, id_or_null, metadata_doc};

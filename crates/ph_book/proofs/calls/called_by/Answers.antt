@@ -1,4 +1,4 @@
-use Rattle.std.proofs.Common.{◌≡◌, ℕ, sym, ap, ◌∙◌, subst, IfOk}
+use Rattle.std.proofs.Common.{◌≡◌, sym, ap, ◌∙◌, subst, IfOk}
 use Rattle.ph_json.specs.declared.doc.Doc.{Doc}
 use Rattle.ph_rows.specs.Batches.{BatchState}
 use Rattle.ph_calls.specs.Outcomes.{Adds}

@@ -1,4 +1,4 @@
-use Rattle.std.proofs.Common.{◌≡◌, ◌+◌, false, length, sym, subst, IsTrue}
+use Rattle.std.proofs.Common.{◌≡◌, false, sym, subst, IsTrue}
 use Rattle.ph_http.specs.declared.message.Reply.{Reply}
 use Rattle.ph_http.specs.Replies.{is_status}
 use Rattle.ph_book.specs.declared.acts.Act.{Act}

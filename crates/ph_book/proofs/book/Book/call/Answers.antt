@@ -1,4 +1,4 @@
-use Rattle.std.proofs.Common.{ap, ◌∙◌, ◌+◌, length, arith}
+use Rattle.std.proofs.Common.{ap, ◌∙◌, ◌+◌}
 use Rattle.ph_book.specs.declared.acts.Deed.TheVariants as deed
 use Rattle.ph_book.proofs.HistoryLemmas.{full_is, has_room, no_room}
 use Rattle.ph_book.proofs.StepLemmas.{called_is}

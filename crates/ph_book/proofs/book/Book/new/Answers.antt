@@ -1,4 +1,4 @@
-use Rattle.std.proofs.Common.{[], refl, ap, ◌∙◌, length, arith}
+use Rattle.std.proofs.Common.{[], refl, ap, length, arith}
 use Rattle.ph_book.proofs.HistoryLemmas.{book_is, book_new}
 use Rattle.ph_book.proofs.book.Book.new.Goals as goal
 

@@ -1,4 +1,4 @@
-use Rattle.std.proofs.Common.{false, ◌∙◌, w64, to_z, of_z}
+use Rattle.std.proofs.Common.{false, ◌∙◌, w64}
 use Rattle.std.proofs.lemmas.Int.{to_z-of_z}
 use Rattle.ph_book.proofs.StoreLemmas.{ledger_balance}
 use Rattle.ph_book.proofs.store.StoreView.pending.Goals as goal
