@@ -37,7 +37,7 @@ halt_of (Close status ∷ items) (suc limit) = Stopped (stop.Refused status)
 halt_of (Cut ∷ items) (suc limit) = AtCut
 halt_of (End ∷ items) (suc limit) = Stopped stop.End
 
--- the replies of a session that serves so many requests, behind this line: before each stands the 100 line that its request waits for, and the last one says that the session closes
+-- the replies of a session that serves so many requests, behind this line: before each stands the 100 line that its request waits for, and the one to a request that asks for the end, or the last that the session may serve, says that the session closes
 abbrev pub replies_behind : List ℕ → List Item → ℕ → List Reply → List ℕ
 replies_behind line items zero replies = []
 replies_behind line [] (suc limit) replies = []
