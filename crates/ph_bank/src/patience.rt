@@ -1,6 +1,7 @@
 //! How often a pending poll is followed by another.
 
 use std::marker::Model;
+use std::thread;
 
 /// Decides after each pending poll whether there is another.
 pub trait Patience {
@@ -20,7 +21,8 @@ pub trait Patience {
         ensures decides { Decides (counts self.old) (counts self.new) (left self.old) (left self.new) result };
 }
 
-/// Grants so many polls after each start.
+/// Grants so many polls after each start. Before each answer it yields the thread, so that what the poll waits for may
+/// run.
 #[derive(Drop, Debug)]
 pub struct Turns {
     turns: u64,
@@ -79,6 +81,7 @@ impl Patience for Turns {
         ensures answer { result ≡ nat_lt 0 self.old.left }
         ensures left { self.new.left ≡ self.old.left - 1 }
     {
+        thread::yield_now();
         if self.left > 0 {
             self.left -= 1;
             self.grants = self.grants.saturating_add(1);
