@@ -84,7 +84,7 @@ fn retrieve(
     id: &[u8],
     batch: &Batch,
 ) -> Result<u64, Refusal>
-    ensures { Gives (retrieved store.now.rows kind id.now batch.now) result batch.now }
+    ensures { Gives (retrieved store.now.rows kind id.now batch.now) batch.now result batch.now }
 {
     match owned_named(store, PLATFORM, kind, id) {
         Some(row) => Ok(row.object),
@@ -99,10 +99,10 @@ fn make(
     call: &CreateIntent,
     batch: &mut Batch,
 ) -> Result<u64, Refusal>
-    ensures { Gives (created store.now.rows call.now batch.old) result batch.new }
+    ensures { Gives (created store.now.rows call.now batch.old) batch.old result batch.new }
 {
     if call.confirm {
-        begin(alloc, store, PLATFORM, Begin::Create(call), batch)
+        begin(alloc, store, PLATFORM, &Begin::Create(call), batch)
     } else {
         create(alloc, store, PLATFORM, call, batch)
     }
@@ -115,7 +115,7 @@ fn take(
     call: &CaptureIntent,
     batch: &mut Batch,
 ) -> Result<u64, Refusal>
-    ensures { Gives (and_opened store.now.rows (capture_outcome store.now.rows platform call.now batch.old)) result batch.new }
+    ensures { Gives (and_opened store.now.rows (capture_outcome store.now.rows platform call.now batch.old)) batch.old result batch.new }
 {
     match capture(alloc, store, PLATFORM, call, batch) {
         Ok(object) => match open_due(alloc, store, object, batch) {
@@ -133,11 +133,11 @@ fn authenticate(
     call: &Authenticate,
     batch: &mut Batch,
 ) -> Result<u64, Refusal>
-    ensures { Gives (authenticated store.now.rows call.now batch.old call.now.outcome) result batch.new }
+    ensures { Gives (authenticated store.now.rows call.now batch.old call.now.outcome) batch.old result batch.new }
 {
     match call.outcome {
         Authentication::Succeeded => {
-            begin(alloc, store, PLATFORM, Begin::Authenticate(call), batch)
+            begin(alloc, store, PLATFORM, &Begin::Authenticate(call), batch)
         }
         Authentication::Failed => fail_authentication(alloc, store, PLATFORM, call, batch),
     }
@@ -166,7 +166,7 @@ fn set_clock(alloc: Global, now: u64, moment: u64) -> Result<Carried, Refusal>
 
 // What an operation carried out.
 fn added(given: Result<u64, Refusal>) -> Result<Carried, Refusal>
-    ensures { (outcome : Outcome) (batch : BatchState) → Gives outcome given batch → Comes (Makes outcome) result batch }
+    ensures { (outcome : Outcome) (old batch : BatchState) → Gives outcome old given batch → Comes (Makes outcome) result batch }
 {
     match given {
         Ok(object) => Ok(Carried::Added(object)),
@@ -185,7 +185,7 @@ fn carry(alloc: Global, store: &Store, call: &Call, batch: &mut Batch) -> Result
         }
         Call::UpdateIntent(call) => added(update(alloc, store, PLATFORM, call, batch)),
         Call::ConfirmIntent(call) => {
-            added(begin(alloc, store, PLATFORM, Begin::Confirm(call), batch))
+            added(begin(alloc, store, PLATFORM, &Begin::Confirm(call), batch))
         }
         Call::CaptureIntent(call) => added(take(alloc, store, call, batch)),
         Call::CancelIntent(call) => added(cancel(alloc, store, PLATFORM, call, batch)),

@@ -10,8 +10,9 @@ pub data Outcome : Type 0 where
   Refuses : ApiError → Outcome
   Adds : ℕ → BatchState → Outcome
 
--- what an operation answered, and its batch, are the outcome; want of memory is free
-abbrev pub Gives : Outcome → Result ℕ Refusal → BatchState → Type 0
-Gives outcome (Ok object) batch = outcome ≡ Adds object batch
-Gives outcome (Err (refusal.Api error)) batch = outcome ≡ Refuses error
-Gives outcome (Err refusal.NoMemory) batch = Unit {0}
+-- what an operation answered, and its batch, are the outcome; where it is refused, nothing is added to the batch before;
+-- want of memory is free
+abbrev pub Gives : Outcome → BatchState → Result ℕ Refusal → BatchState → Type 0
+Gives outcome old (Ok object) new = outcome ≡ Adds object new
+Gives outcome old (Err (refusal.Api error)) new = (outcome ≡ Refuses error) × (new ≡ old)
+Gives outcome old (Err refusal.NoMemory) new = Unit {0}

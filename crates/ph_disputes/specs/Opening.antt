@@ -69,6 +69,20 @@ abbrev pub opening_in : ℕ → BatchState → Option Row → BatchState
 opening_in object batch None = batch
 opening_in object batch (Some row) = opening_of row.account object batch (charge_in row.item)
 
+-- the number of the dispute that is opened: the next place, and 0 where the item of a row is no charge
+abbrev pub number_of : BatchState → Option Charge → ℕ
+number_of batch None = 0
+number_of batch (Some charge) = last_place batch + 1
+
+-- the same for the version of the charge in a row, where there is one
+abbrev pub number_in : BatchState → Option Row → ℕ
+number_in batch None = 0
+number_in batch (Some row) = number_of batch (charge_in row.item)
+
+-- the number of the dispute that is opened of the charge of a number, and 0 where there is no such charge
+abbrev pub opened_number : List Row → ℕ → BatchState → ℕ
+opened_number rows object batch = number_in batch (version_with rows batch object)
+
 -- the opening of a dispute of the charge of a number, whose last version is in the batch or in the rows before it
 abbrev pub open_of : List Row → ℕ → BatchState → BatchState
 open_of rows object batch = opening_in object batch (version_with rows batch object)

@@ -101,7 +101,7 @@ fn answer_dispute(
     dispute: &Dispute,
     batch: &mut Batch,
 ) -> Result<u64, Refusal>
-    ensures { Gives (evidence_of text.now batch.old row.now dispute.now) result batch.new }
+    ensures { Gives (evidence_of text.now batch.old row.now dispute.now) batch.old result batch.new }
 {
     if is_closed(dispute.status) {
         return Err(Refusal::of(ApiError::dispute_closed(alloc)));
@@ -121,7 +121,7 @@ pub fn evidence<V: View>(
     call: &SendEvidence,
     batch: &mut Batch,
 ) -> Result<u64, Refusal>
-    ensures { Gives (evidence_outcome (V.state view.now).rows account call.now batch.old) result batch.new }
+    ensures { Gives (evidence_outcome (V.state view.now).rows account call.now batch.old) batch.old result batch.new }
 {
     let Some(row) = owned_named(view, account, Kind::Dispute, call.id.as_slice()) else {
         return Err(Refusal::of(ApiError::no_such_object(alloc, b"id")));

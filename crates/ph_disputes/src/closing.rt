@@ -33,7 +33,7 @@ fn close_dispute(
     dispute: &Dispute,
     batch: &mut Batch,
 ) -> Result<u64, Refusal>
-    ensures { Gives (close_of batch.old row.now dispute.now) result batch.new }
+    ensures { Gives (close_of batch.old row.now dispute.now) batch.old result batch.new }
 {
     if is_closed(dispute.status) {
         return Err(Refusal::of(ApiError::dispute_closed(alloc)));
@@ -53,7 +53,7 @@ pub fn close<V: View>(
     call: &CloseDispute,
     batch: &mut Batch,
 ) -> Result<u64, Refusal>
-    ensures { Gives (close_outcome (V.state view.now).rows account call.now batch.old) result batch.new }
+    ensures { Gives (close_outcome (V.state view.now).rows account call.now batch.old) batch.old result batch.new }
 {
     let Some(row) = owned_named(view, account, Kind::Dispute, call.id.as_slice()) else {
         return Err(Refusal::of(ApiError::no_such_object(alloc, b"id")));

@@ -63,7 +63,10 @@ pub fn open_due<V: View>(
     ensures { OnOk result (batch.new ≡ open_due_of (V.state view.now).rows intent batch.old) }
 {
     match due_charge(batch, intent) {
-        Some(charge) => open(alloc, view, charge, batch),
+        Some(charge) => {
+            open(alloc, view, charge, batch)?;
+            Ok(())
+        }
         None => Ok(()),
     }
 }

@@ -1,7 +1,7 @@
 //! The opening of a dispute.
 ghost use Rattle.std.specs.Prelude.{◌≡◌, ◌+◌, IfOk, OnOk};
 ghost use Rattle.ph_rows.specs.Batches.{last_place};
-ghost use Rattle.ph_disputes.specs.Opening.{disputed_charge, new_dispute, open_of, opening_rows, taken_txn, with_disputed, with_taken};
+ghost use Rattle.ph_disputes.specs.Opening.{disputed_charge, new_dispute, open_of, opened_number, opening_rows, taken_txn, with_disputed, with_taken};
 
 use ph_base::NoMemory;
 use ph_money::SignedAmount;
@@ -76,38 +76,42 @@ fn tell_disputed(
     batch.announce(EventKind::DisputeCreated, number)
 }
 
-// Adds the rows of a dispute: the dispute, its transaction, and the charge of the account.
+// Adds the rows of a dispute: the dispute, its transaction, and the charge of the account. The answer is the dispute's
+// number.
 fn add_opening(
     alloc: Global,
     account: u64,
     object: u64,
     charge: &Charge,
     batch: &mut Batch,
-) -> Result<(), NoMemory>
-    ensures { OnOk result (batch.new ≡ opening_rows account object charge.now (last_place batch.old + 1) batch.old) }
+) -> Result<u64, NoMemory>
+    ensures number { IfOk result (λ number. number ≡ last_place batch.old + 1) }
+    ensures rows { OnOk result (batch.new ≡ opening_rows account object charge.now (last_place batch.old + 1) batch.old) }
 {
     let number = batch.add(account, Item::Dispute(new_dispute(object, charge)))?;
     add_taken(account, number, charge, batch)?;
-    tell_disputed(alloc, account, object, charge, number, batch)
+    tell_disputed(alloc, account, object, charge, number, batch)?;
+    Ok(number)
 }
 
 /// Opens a dispute of a charge, whose last version is in the batch or in the view: it adds the dispute, which is the
 /// next place, of all that was captured; the transaction that takes this amount and the fee of the dispute at once; the
-/// version of the charge that has the dispute; and the announcement `charge.dispute.created`. Where there is no such
-/// charge nothing is added.
+/// version of the charge that has the dispute; and the announcement `charge.dispute.created`. The answer is the
+/// dispute's number. Where there is no such charge nothing is added, and the answer is 0.
 pub fn open<V: View>(
     alloc: Global,
     view: &V,
     charge: u64,
     batch: &mut Batch,
-) -> Result<(), NoMemory>
-    ensures { OnOk result (batch.new ≡ open_of (V.state view.now).rows charge batch.old) }
+) -> Result<u64, NoMemory>
+    ensures number { IfOk result (λ number. number ≡ opened_number (V.state view.now).rows charge batch.old) }
+    ensures rows { OnOk result (batch.new ≡ open_of (V.state view.now).rows charge batch.old) }
 {
     let Some(row) = version_with(view, batch, charge) else {
-        return Ok(());
+        return Ok(0);
     };
     let Some(version) = row.item.charge() else {
-        return Ok(());
+        return Ok(0);
     };
     let account = row.account;
     let version = version.copy(alloc)?;

@@ -49,7 +49,7 @@ pub fn add_attempted(
     method: Method,
     batch: &mut Batch,
 ) -> Result<u64, Refusal>
-    ensures { Gives (attempted account object intent method batch.old) result batch.new }
+    ensures { Gives (attempted account object intent method batch.old) batch.old result batch.new }
 {
     let amount = intent.amount;
     let currency = intent.currency;

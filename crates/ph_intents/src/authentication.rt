@@ -35,7 +35,7 @@ fn authenticate_intent(
     intent: &Intent,
     batch: &mut Batch,
 ) -> Result<u64, Refusal>
-    ensures { Gives (authenticate_of account batch.old object intent.now) result batch.new }
+    ensures { Gives (authenticate_of account batch.old object intent.now) batch.old result batch.new }
 {
     match next_status(intent.status, Step::Authenticate) {
         Some(status) => {
@@ -54,7 +54,7 @@ pub fn authenticate<V: View>(
     call: &Authenticate,
     batch: &mut Batch,
 ) -> Result<u64, Refusal>
-    ensures { Gives (authenticate_outcome (V.state view.now).rows account call.now batch.old) result batch.new }
+    ensures { Gives (authenticate_outcome (V.state view.now).rows account call.now batch.old) batch.old result batch.new }
 {
     let Some(row) = owned_named(view, account, Kind::Intent, call.id.as_slice()) else {
         return Err(no_such_intent(alloc));
@@ -89,7 +89,7 @@ fn fail_intent(
     intent: &Intent,
     batch: &mut Batch,
 ) -> Result<u64, Refusal>
-    ensures { Gives (fail_of account batch.old object intent.now) result batch.new }
+    ensures { Gives (fail_of account batch.old object intent.now) batch.old result batch.new }
 {
     match next_status(intent.status, Step::Fail) {
         Some(status) => {
@@ -112,7 +112,7 @@ pub fn fail_authentication<V: View>(
     call: &Authenticate,
     batch: &mut Batch,
 ) -> Result<u64, Refusal>
-    ensures { Gives (fail_authentication_outcome (V.state view.now).rows account call.now batch.old) result batch.new }
+    ensures { Gives (fail_authentication_outcome (V.state view.now).rows account call.now batch.old) batch.old result batch.new }
 {
     let Some(row) = owned_named(view, account, Kind::Intent, call.id.as_slice()) else {
         return Err(no_such_intent(alloc));

@@ -18,10 +18,10 @@ pub fn begin<V: View>(
     alloc: Global,
     view: &V,
     account: u64,
-    call: Begin<'_>,
+    call: &Begin<'_>,
     batch: &mut Batch,
 ) -> Result<u64, Refusal>
-    ensures { Gives (begin_outcome (V.state view.now).rows account call.entry batch.old) result batch.new }
+    ensures { Gives (begin_outcome (V.state view.now).rows account call.now batch.old) batch.old result batch.new }
 {
     match call {
         Begin::Confirm(call) => confirm(alloc, view, account, call, batch),

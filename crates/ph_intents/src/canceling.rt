@@ -38,7 +38,7 @@ fn cancel_intent(
     intent: &Intent,
     batch: &mut Batch,
 ) -> Result<u64, Refusal>
-    ensures { Gives (cancel_of account reason batch.old object intent.now) result batch.new }
+    ensures { Gives (cancel_of account reason batch.old object intent.now) batch.old result batch.new }
 {
     match next_status(intent.status, Step::Cancel) {
         Some(status) => {
@@ -59,7 +59,7 @@ pub fn cancel<V: View>(
     call: &CancelIntent,
     batch: &mut Batch,
 ) -> Result<u64, Refusal>
-    ensures { Gives (cancel_outcome (V.state view.now).rows account call.now batch.old) result batch.new }
+    ensures { Gives (cancel_outcome (V.state view.now).rows account call.now batch.old) batch.old result batch.new }
 {
     let Some(row) = owned_named(view, account, Kind::Intent, call.id.as_slice()) else {
         return Err(no_such_intent(alloc));

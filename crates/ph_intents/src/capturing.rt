@@ -63,7 +63,7 @@ fn capture_amount<V: View>(
     status: IntentStatus,
     batch: &mut Batch,
 ) -> Result<u64, Refusal>
-    ensures { Gives (capture_amount (V.state view.now).rows account amount batch.old object intent.now status) result batch.new }
+    ensures { Gives (capture_amount (V.state view.now).rows account amount batch.old object intent.now status) batch.old result batch.new }
 {
     if is_out_of_bounds(amount, intent.amount_capturable) {
         return Err(invalid_value(alloc, b"amount_to_capture"));
@@ -84,7 +84,7 @@ fn capture_intent<V: View>(
     intent: &Intent,
     batch: &mut Batch,
 ) -> Result<u64, Refusal>
-    ensures { Gives (capture_of (V.state view.now).rows account amount batch.old object intent.now) result batch.new }
+    ensures { Gives (capture_of (V.state view.now).rows account amount batch.old object intent.now) batch.old result batch.new }
 {
     match next_status(intent.status, Step::Capture) {
         Some(status) => {
@@ -105,7 +105,7 @@ pub fn capture<V: View>(
     call: &CaptureIntent,
     batch: &mut Batch,
 ) -> Result<u64, Refusal>
-    ensures { Gives (capture_outcome (V.state view.now).rows account call.now batch.old) result batch.new }
+    ensures { Gives (capture_outcome (V.state view.now).rows account call.now batch.old) batch.old result batch.new }
 {
     let Some(row) = owned_named(view, account, Kind::Intent, call.id.as_slice()) else {
         return Err(no_such_intent(alloc));

@@ -38,7 +38,7 @@ fn confirm_with(
     method: Option<&PaymentMethod>,
     batch: &mut Batch,
 ) -> Result<u64, Refusal>
-    ensures { Gives (confirm_with account batch.old object intent.now (option_copied method.entry)) result batch.new }
+    ensures { Gives (confirm_with account batch.old object intent.now (option_copied method.entry)) batch.old result batch.new }
 {
     let Some(method) = method else {
         return Err(unexpected_state(alloc));
@@ -61,7 +61,7 @@ fn confirm_intent(
     intent: &Intent,
     batch: &mut Batch,
 ) -> Result<u64, Refusal>
-    ensures { Gives (confirm_of account named.now batch.old object intent.now) result batch.new }
+    ensures { Gives (confirm_of account named.now batch.old object intent.now) batch.old result batch.new }
 {
     match named {
         Some(method) => confirm_with(alloc, account, object, intent, Some(method), batch),
@@ -80,7 +80,7 @@ pub fn confirm<V: View>(
     call: &ConfirmIntent,
     batch: &mut Batch,
 ) -> Result<u64, Refusal>
-    ensures { Gives (confirm_outcome (V.state view.now).rows account call.now batch.old) result batch.new }
+    ensures { Gives (confirm_outcome (V.state view.now).rows account call.now batch.old) batch.old result batch.new }
 {
     let Some(row) = owned_named(view, account, Kind::Intent, call.id.as_slice()) else {
         return Err(no_such_intent(alloc));

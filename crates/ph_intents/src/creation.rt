@@ -49,7 +49,7 @@ pub fn create<V: View>(
     call: &CreateIntent,
     batch: &mut Batch,
 ) -> Result<u64, Refusal>
-    ensures { Gives (create_outcome (V.state view.now).rows account call.now batch.old) result batch.new }
+    ensures { Gives (create_outcome (V.state view.now).rows account call.now batch.old) batch.old result batch.new }
 {
     let status = match call.payment_method {
         Some(_) => IntentStatus::RequiresConfirmation,
@@ -68,7 +68,7 @@ fn create_with(
     method: Method,
     batch: &mut Batch,
 ) -> Result<u64, Refusal>
-    ensures { Gives (created_with account intent method batch.old) result batch.new }
+    ensures { Gives (created_with account intent method batch.old) batch.old result batch.new }
 {
     let amount = intent.amount;
     let currency = intent.currency;
@@ -86,7 +86,7 @@ pub fn create_confirmed<V: View>(
     call: &CreateIntent,
     batch: &mut Batch,
 ) -> Result<u64, Refusal>
-    ensures { Gives (create_confirmed_outcome (V.state view.now).rows account call.now batch.old) result batch.new }
+    ensures { Gives (create_confirmed_outcome (V.state view.now).rows account call.now batch.old) batch.old result batch.new }
 {
     match &call.payment_method {
         Some(method) => {

@@ -86,7 +86,7 @@ fn update_with(
     intent: Intent,
     batch: &mut Batch,
 ) -> Result<u64, Refusal>
-    ensures { Gives (update_with account batch.old object intent) result batch.new }
+    ensures { Gives (update_with account batch.old object intent) batch.old result batch.new }
 {
     if intent.amount < intent.currency.minimum() {
         return Err(amount_too_small(alloc));
@@ -107,7 +107,7 @@ fn update_intent(
     intent: &Intent,
     batch: &mut Batch,
 ) -> Result<u64, Refusal>
-    ensures { Gives (update_of account call.now batch.old object intent.now) result batch.new }
+    ensures { Gives (update_of account call.now batch.old object intent.now) batch.old result batch.new }
 {
     match next_status(intent.status, step_of(call)) {
         Some(status) => {
@@ -128,7 +128,7 @@ pub fn update<V: View>(
     call: &UpdateIntent,
     batch: &mut Batch,
 ) -> Result<u64, Refusal>
-    ensures { Gives (update_outcome (V.state view.now).rows account call.now batch.old) result batch.new }
+    ensures { Gives (update_outcome (V.state view.now).rows account call.now batch.old) batch.old result batch.new }
 {
     let Some(row) = owned_named(view, account, Kind::Intent, call.id.as_slice()) else {
         return Err(no_such_intent(alloc));

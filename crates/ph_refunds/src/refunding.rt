@@ -51,7 +51,7 @@ fn refund_amount(
     batch: &mut Batch,
 ) -> Result<u64, Refusal>
     requires some { 0 < left_of charge.now }
-    ensures { Gives (refund_amount call.now batch.old row.now charge.now capture amount) result batch.new }
+    ensures { Gives (refund_amount call.now batch.old row.now charge.now capture amount) batch.old result batch.new }
 {
     if amount.units() > left_of(charge).units() {
         return Err(Refusal::of(ApiError::invalid_value(alloc, b"amount")));
@@ -78,7 +78,7 @@ fn refund_left(
     capture: Capture,
     batch: &mut Batch,
 ) -> Result<u64, Refusal>
-    ensures { Gives (refund_left call.now batch.old row.now charge.now capture) result batch.new }
+    ensures { Gives (refund_left call.now batch.old row.now charge.now capture) batch.old result batch.new }
 {
     let left = left_of(charge);
     if left.units() == 0 {
@@ -98,7 +98,7 @@ fn refund_captured<V: View>(
     capture: Capture,
     batch: &mut Batch,
 ) -> Result<u64, Refusal>
-    ensures { Gives (refund_captured (V.state view.now).rows call.now batch.old row.now charge.now capture) result batch.new }
+    ensures { Gives (refund_captured (V.state view.now).rows call.now batch.old row.now charge.now capture) batch.old result batch.new }
 {
     if is_disputed(view, charge.dispute) {
         return Err(Refusal::of(ApiError::charge_disputed(alloc)));
@@ -115,7 +115,7 @@ fn refund_charge<V: View>(
     charge: &Charge,
     batch: &mut Batch,
 ) -> Result<u64, Refusal>
-    ensures { Gives (refund_of (V.state view.now).rows call.now batch.old row.now charge.now) result batch.new }
+    ensures { Gives (refund_of (V.state view.now).rows call.now batch.old row.now charge.now) batch.old result batch.new }
 {
     match charge.capture {
         Some(capture) => refund_captured(alloc, view, call, row, charge, capture, batch),
@@ -132,7 +132,7 @@ fn refund_row<V: View>(
     row: Option<&Row>,
     batch: &mut Batch,
 ) -> Result<u64, Refusal>
-    ensures { Gives (made_of_row (refund_of (V.state view.now).rows call.now batch.old) param.now (option_copied row.entry)) result batch.new }
+    ensures { Gives (made_of_row (refund_of (V.state view.now).rows call.now batch.old) param.now (option_copied row.entry)) batch.old result batch.new }
 {
     let Some(row) = row else {
         return Err(Refusal::of(ApiError::no_such_object(alloc, param)));
@@ -154,7 +154,7 @@ pub fn refund<V: View>(
     call: &CreateRefund,
     batch: &mut Batch,
 ) -> Result<u64, Refusal>
-    ensures { Gives (refund_outcome (V.state view.now).rows account call.now batch.old) result batch.new }
+    ensures { Gives (refund_outcome (V.state view.now).rows account call.now batch.old) batch.old result batch.new }
 {
     match &call.charge {
         Some(charge) => match &call.payment_intent {

@@ -126,11 +126,11 @@ fn an_opening(rt: HostRuntime) -> Result<(), Fail> {
     batch.add(2, captured(3))?;
     enter(alloc, &mut view, batch)?;
     let mut batch = batch_after(alloc, &view);
-    open(alloc, &view, 2, &mut batch)?;
-    open(alloc, &view, 4, &mut batch)?;
-    open(alloc, &view, 5, &mut batch)?;
+    for none in [2, 4, 5] {
+        assert_eq!(rt; open(alloc, &view, none, &mut batch)?, 0);
+    }
     assert_eq!(rt; batch.count(), 4);
-    open(alloc, &view, 3, &mut batch)?;
+    assert_eq!(rt; open(alloc, &view, 3, &mut batch)?, 5);
     enter(alloc, &mut view, batch)?;
     assert_eq!(rt; view.rows().len(), 8);
     let opened = row(&view, 5)?;

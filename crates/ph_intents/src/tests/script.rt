@@ -133,7 +133,7 @@ fn carry_out_on<V: View>(
     } else if word == b"confirm".as_slice() {
         let payment_method = payment_method_at(alloc, form, b"payment_method")?;
         let call = ConfirmIntent { id, payment_method };
-        begin(alloc, view, account, Begin::Confirm(&call), batch)
+        begin(alloc, view, account, &Begin::Confirm(&call), batch)
     } else if word == b"capture".as_slice() {
         let amount_to_capture = amount_at(form, b"amount_to_capture");
         let call = CaptureIntent {
@@ -153,7 +153,7 @@ fn carry_out_on<V: View>(
         cancel(alloc, view, account, &call, batch)
     } else if word == b"authenticate".as_slice() {
         let call = authentication(id, Authentication::Succeeded);
-        begin(alloc, view, account, Begin::Authenticate(&call), batch)
+        begin(alloc, view, account, &Begin::Authenticate(&call), batch)
     } else {
         let call = authentication(id, Authentication::Failed);
         fail_authentication(alloc, view, account, &call, batch)
@@ -175,7 +175,7 @@ fn carry_out<V: View>(
         create(alloc, view, account, &call, batch)
     } else if word == b"begin".as_slice() {
         let call = create_call(alloc, body)?;
-        begin(alloc, view, account, Begin::Create(&call), batch)
+        begin(alloc, view, account, &Begin::Create(&call), batch)
     } else if word == b"settle".as_slice() {
         let attempt = read_number(place).unwrap_or(0);
         match settle(alloc, view, attempt, ruling_of(body), batch) {
