@@ -9,18 +9,17 @@ use ph_bank::{SimAcquirer, Turns};
 use ph_base::{Bytes, NoMemory};
 use ph_host::{Plan, plan, run_once};
 use ph_io::{StdSink, StdSource};
+use std::alloc::Global;
+use std::env;
+use std::io::{self, ErrorKind};
 use std::process::ExitCode;
-use std::{env, io};
 
-fn main(rt: HostRuntime) -> io::Result<ExitCode> {
+fn main(rt: HostRuntime) -> ExitCode {
     let alloc = rt.alloc();
-    let mut words = Vec::new(alloc);
-    for word in env::args(&rt)?.skip(1) {
-        match Bytes::from_slice(alloc, word.as_bytes()) {
-            Ok(word) => words.push(word)?,
-            Err(NoMemory) => return Ok(ExitCode::from(6)),
-        }
-    }
+    let words = match words(alloc, env::args(&rt)) {
+        Ok(words) => words,
+        Err(NoMemory) => return ExitCode::from(6),
+    };
     let mut input = StdSource::new(rt.stdin());
     let mut output = StdSink::new(rt.stdout());
     let mut link = SimAcquirer::new();
@@ -33,7 +32,22 @@ fn main(rt: HostRuntime) -> io::Result<ExitCode> {
         &mut link,
         &mut patience,
     );
-    Ok(ExitCode::from(status))
+    ExitCode::from(status)
+}
+
+// The words behind the program's own name. Words of which one isn't UTF-8 ask for nothing that payhost does, as no
+// words do.
+fn words(alloc: Global, args: io::Result<env::Args>) -> Result<Vec<Bytes>, NoMemory> {
+    let mut words = Vec::new(alloc);
+    let args = match args {
+        Ok(args) => args,
+        Err(why) if why.kind() == ErrorKind::OutOfMemory => return Err(NoMemory),
+        Err(_) => return Ok(words),
+    };
+    for word in args.skip(1) {
+        words.push(Bytes::from_slice(alloc, word.as_bytes())?)?;
+    }
+    Ok(words)
 }
 
 // How many further polls the words grant.
