@@ -30,7 +30,7 @@ use Rattle.ph_conn.specs.Answers.{IsFullFor, Entered, Answers}
 use Rattle.ph_conn.specs.Desks.{Desk, Counted, live_in}
 use Rattle.ph_conn.specs.Parts.{Run, Part, requests_of, entries_from, Follows, AllFollow, AreReplies, asks_of, over_runs, failures, refusals, grants, drives, is_out, AllHadMemory}
 use Rattle.ph_conn.specs.Reads.{Fetches, request_items, told_end}
-use Rattle.ph_conn.specs.Sends.{Parts, Closes, Sends}
+use Rattle.ph_conn.specs.Sends.{Parts, PartsOut, Closes, Sends}
 use Rattle.ph_conn.specs.Served.{Halt, Stopped, AtCut, Open, served, halt_of, replies_text, next_line, output}
 use Rattle.ph_conn.specs.Session as session
 use Rattle.ph_conn.specs.Session.{Session, NextIsFull, EndsOut, RunsOut, Replying, Refusing, Filling, RunningOut}
@@ -559,8 +559,10 @@ stops_unwritten {limit} {i} {n} {talk} {raw} {continues} {desk0} {desk1} {desk2}
 -- the run was given up for want of memory, and the last words are the reply
 pub stops_parked : {limit i n : ℕ} {talk : TalkState} {raw : Raw} {continues : Bool} {desk0 desk1 desk2 : Desk} {input0 input1 : SourceState} {output0 output1 output2 : SinkState} (run : Option Run) (got : TalkError)
     → Waiting limit i n talk raw continues desk0 desk1 input0 input1 output0 output1 → Entered desk1 desk2 raw run (park_reply why.NoMemory) → is_out run ≡ true
-    → Parts fixed.NoMemory fault.NoMemory got output1 output2 → Session (Err got) limit desk0 desk2 input0 input1 output0 output2
-stops_parked {limit} {i} {n} {talk} {raw} {continues} {desk0} {desk1} {desk2} {input0} {input1} {output0} {output1} {output2} run got w e out parts = at parts
+    → PartsOut got output1 output2 → Session (Err got) limit desk0 desk2 input0 input1 output0 output2
+stops_parked {limit} {i} {n} {talk} {raw} {continues} {desk0} {desk1} {desk2} {input0} {input1} {output0} {output1} {output2} run got w e out parts =
+    subst (λ (x : TalkError). Session (Err x) limit desk0 desk2 input0 input1 output0 output2) (sym parts.0)
+    (session_with (work-push w.grown_by.work e) w.bytes (inl w.moved) (waiting-items w) (r.rest, front-push _ r.rest w.parts (part_of raw run) r.serves) (writes (ends parts.1)) tt)
   where
     items : List Item
     items = (w.given ++ request_items raw continues) ++ items_from talk
@@ -571,22 +573,19 @@ stops_parked {limit} {i} {n} {talk} {raw} {continues} {desk0} {desk1} {desk2} {i
     text_is : output items limit w.replies (Some fixed.NoMemory) ≡ (w.text ++ line_for continues) ++ last_words fixed.NoMemory
     text_is = refused-output r (Some fixed.NoMemory)
 
-    writes : (result : Result Closed TalkError) → EndsOut result output0 output2 (output items limit w.replies (Some fixed.NoMemory))
-        → session.Writes result items limit desk2.book (w.parts ++ part_of raw run ∷ []) (w.replies ++ park_reply why.NoMemory ∷ []) output0 output2
-    writes result ends = inr (record {
+    writes : EndsOut (Err fault.NoMemory) output0 output2 (output items limit w.replies (Some fixed.NoMemory))
+        → session.Writes (Err fault.NoMemory) items limit desk2.book (w.parts ++ part_of raw run ∷ []) (w.replies ++ park_reply why.NoMemory ∷ []) output0 output2
+    writes ends = inr (record {
       out = record { before = w.parts; last = part_of raw run; all = refl; had_memory = w.grown_by.had_memory; out = out };
       before = w.replies;
       all = refl;
       ends = ends;
     })
 
-    at : Parts fixed.NoMemory fault.NoMemory got output1 output2 → Session (Err got) limit desk0 desk2 input0 input1 output0 output2
-    at (inl (is, takes)) = subst (λ (x : TalkError). Session (Err x) limit desk0 desk2 input0 input1 output0 output2) (sym is)
-        (session_with (work-push w.grown_by.work e) w.bytes (inl w.moved) (waiting-items w) (r.rest, front-push _ r.rest w.parts (part_of raw run) r.serves)
-        (writes (Err fault.NoMemory) (subst (Takes output0 output2) (sym text_is) (takes_twice w.wrote takes))) tt)
-    at (inr (is, front)) = subst (λ (x : TalkError). Session (Err x) limit desk0 desk2 input0 input1 output0 output2) (sym is)
-        (session_with (work-push w.grown_by.work e) w.bytes (inl w.moved) (waiting-items w) (r.rest, front-push _ r.rest w.parts (part_of raw run) r.serves)
-        (writes (Err fault.WriteFault) (subst (TakesFront output0 output2) (sym text_is) (takes_then_front w.wrote front))) tt)
+    ends : Takes output1 output2 (last_words fixed.NoMemory) ⊎ TakesFront output1 output2 (last_words fixed.NoMemory)
+        → EndsOut (Err fault.NoMemory) output0 output2 (output items limit w.replies (Some fixed.NoMemory))
+    ends (inl takes) = inl (subst (Takes output0 output2) (sym text_is) (takes_twice w.wrote takes))
+    ends (inr front) = inr (subst (TakesFront output0 output2) (sym text_is) (takes_then_front w.wrote front))
 
 -- the session breaks off at a request
 pub breaks_off : {limit i n : ℕ} {talk : TalkState} {raw : Raw} {continues : Bool} {desk0 desk1 desk2 : Desk} {input0 input1 : SourceState} {output0 output1 output2 : SinkState} (last : Bool) (what : Outcome) (why : TalkError)

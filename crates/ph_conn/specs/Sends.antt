@@ -19,6 +19,11 @@ abbrev pub Parts : Fixed → TalkError → TalkError → SinkState → SinkState
 Parts words why got old new =
     ((got ≡ why) × Takes old new (last_words words)) ⊎ ((got ≡ fault.WriteFault) × TakesFront old new (last_words words))
 
+-- the last words for want of memory were written whole, or a front of them up to a write that failed; either way the session breaks off for want of memory
+abbrev pub PartsOut : TalkError → SinkState → SinkState → Type 0
+PartsOut got old new =
+    (got ≡ fault.NoMemory) × (Takes old new (last_words fixed.NoMemory) ⊎ TakesFront old new (last_words fixed.NoMemory))
+
 -- the closing reply of this status was written whole, or a front of it up to a write that failed
 abbrev pub Closes : ℕ → ℕ → Result Closed TalkError → SinkState → SinkState → Type 0
 Closes status replies (Ok closed) old new =
@@ -45,7 +50,7 @@ Sends (outcome.Reply reply) last (Err fault.ReadFault) old new = ⊥
 Sends (outcome.Reply reply) last (Err fault.Cut) old new = ⊥
 Sends (outcome.Reply reply) last (Err fault.Full) old new = ⊥
 Sends outcome.Parked last (Ok done) old new = ⊥
-Sends outcome.Parked last (Err why) old new = Parts fixed.NoMemory fault.NoMemory why old new
+Sends outcome.Parked last (Err why) old new = PartsOut why old new
 Sends outcome.Full last (Ok done) old new = ⊥
 Sends outcome.Full last (Err why) old new = Parts fixed.HistoryFull fault.Full why old new
 Sends outcome.NoMemory last (Ok done) old new = ⊥

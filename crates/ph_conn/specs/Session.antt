@@ -128,14 +128,14 @@ WritesReplies (Err fault.WriteFault) items limit book entered replies old new =
 WritesReplies (Err fault.NoMemory) items limit book entered replies old new =
     (text : List ℕ) × (RunsOut items limit replies text ⊎ Loses items limit replies text) × Takes old new text
 
--- a session whose last run was given up for want of memory ends so: its text was written whole, or a front of it up to a write that failed
+-- a session whose last run was given up for want of memory breaks off for want of memory, and its text was written whole, or a front of it up to a write that failed
 abbrev pub EndsOut : Result Closed TalkError → SinkState → SinkState → List ℕ → Type 0
 EndsOut (Ok closed) old new text = ⊥
 EndsOut (Err fault.Cut) old new text = ⊥
 EndsOut (Err fault.ReadFault) old new text = ⊥
 EndsOut (Err fault.Full) old new text = ⊥
-EndsOut (Err fault.WriteFault) old new text = TakesFront old new text
-EndsOut (Err fault.NoMemory) old new text = Takes old new text
+EndsOut (Err fault.WriteFault) old new text = ⊥
+EndsOut (Err fault.NoMemory) old new text = Takes old new text ⊎ TakesFront old new text
 
 -- the replies were written, of which the last one, 503 `no_memory`, says that the session closes
 pub record WritesOut (result : Result Closed TalkError) (items : List Item) (limit : ℕ) (parts : List Part) (replies : List Reply) (old new : SinkState) : Type 0 where

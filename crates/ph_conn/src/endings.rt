@@ -31,7 +31,7 @@ pub enum TalkError {
     WriteFault,
     /// The source ended within a request. The replies before it stand.
     Cut,
-    /// There was no memory.
+    /// There was no memory. Where a run was given up for want of it, a write of the last reply may have failed too.
     NoMemory,
     /// The history had no room for a request. It was answered by 503 `history_full`, and isn't entered.
     Full,

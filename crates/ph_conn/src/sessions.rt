@@ -10,7 +10,7 @@ use crate::answers::{Outcome, answer};
 use crate::endings::{Closed, Stop, TalkError};
 use crate::reads::{Fetched, fetch};
 use crate::rules::TalkRules;
-use crate::texts::{announce, close, part};
+use crate::texts::{announce, close, part, part_out};
 use ph_bank::{Acquirer, Patience};
 use ph_base::NoMemory;
 use ph_book::Book;
@@ -27,7 +27,8 @@ use std::alloc::Global;
 /// allow, and with the closing reply of a request that can't be read. It breaks off where a read or a write fails,
 /// where the input ends within a request, where the book has no room for a request, which is answered by 503
 /// `history_full`, and for want of memory. Then 503 `no_memory` is written, unless the lost reply is that of a
-/// request that was entered; it is the reply to a request whose run was given up for want of memory.
+/// request that was entered; it is the reply to a request whose run was given up for want of memory. A session that
+/// gave up a run so breaks off for want of memory, and nothing else, where that last write fails too.
 pub fn serve_solo<S: Source, K: Sink, A: Acquirer, P: Patience>(
     alloc: Global,
     book: &mut Book,
@@ -115,7 +116,7 @@ fn send<K: Sink>(
             Err(NoMemory) => Err(TalkError::NoMemory),
         },
         Outcome::Full => Err(part(output, Fixed::HistoryFull, TalkError::Full)),
-        Outcome::Parked => Err(part(output, Fixed::NoMemory, TalkError::NoMemory)),
+        Outcome::Parked => Err(part_out(output)),
         Outcome::NoMemory => Err(part(output, Fixed::NoMemory, TalkError::NoMemory)),
     }
 }

@@ -1,3 +1,4 @@
+use crate::texts::part_out;
 use crate::{Closed, Stop, TalkError, TalkRules, serve_none, serve_solo};
 use ph_bank::{SimAcquirer, Turns};
 use ph_base::{Bytes, NoMemory, Ruling, Why};
@@ -51,6 +52,9 @@ const HISTORY_FULL: &[u8] =
 
 const NO_MEMORY: &[u8] =
     b"HTTP/1.1 503 Service Unavailable\r\nContent-Type: application/json\r\nContent-Length: 76\r\nConnection: close\r\n\r\n{\"error\":{\"code\":\"no_memory\",\"message\":\"Out of memory.\",\"type\":\"api_error\"}}";
+
+const NO_MEMORY_HEAD: &[u8] =
+    b"HTTP/1.1 503 Service Unavailable\r\nContent-Type: application/json\r\nContent-Length: 76\r\nConnection: close\r\n\r\n";
 
 const CLOSING: &[u8] =
     b"HTTP/1.1 501 Not Implemented\r\nContent-Type: application/json\r\nContent-Length: 71\r\nConnection: close\r\n\r\n{\"error\":{\"message\":\"Not implemented.\",\"type\":\"invalid_request_error\"}}";
@@ -277,5 +281,23 @@ fn a_run_given_up_at_the_limit(rt: HostRuntime) -> Result<(), Fail> {
             .get(1)
             .is_some_and(|end| matches!(end.deed, Deed::Park(1, Why::Pending)))
     );
+    Ok(())
+}
+
+// The last words of a session that gave up a run for want of memory. It ends for want of memory whether they are
+// written whole, not at all, or without their body.
+#[test]
+fn last_words_for_want_of_memory(rt: HostRuntime) -> Result<(), Fail> {
+    let alloc = rt.alloc();
+    let sinks: [(&str, &[u64], &[u8]); 3] = [
+        ("no write fails", &[], NO_MEMORY),
+        ("the first write fails", &[0], NOTHING),
+        ("the second write fails", &[1], NO_MEMORY_HEAD),
+    ];
+    for (name, failing, written) in sinks {
+        let mut output = MemSink::new(alloc, 4096, Vec::from_slice(alloc, failing)?);
+        assert_eq!(rt; part_out(&mut output), TalkError::NoMemory, "{name}");
+        assert_eq!(rt; output.bytes(), written, "{name}");
+    }
     Ok(())
 }

@@ -4,7 +4,7 @@ ghost use Rattle.ph_errors.specs.Body.{body_of};
 ghost use Rattle.ph_errors.specs.Fixed.{closing_of, problem_of};
 ghost use Rattle.ph_errors.specs.Table.{error_of};
 ghost use Rattle.ph_io.specs.Writes.{Takes, TakesFront};
-ghost use Rattle.ph_conn.specs.Sends.{Closes, Parts};
+ghost use Rattle.ph_conn.specs.Sends.{Closes, Parts, PartsOut};
 ghost use Rattle.ph_conn.specs.Texts.{last_words, line_for};
 
 use crate::endings::{Closed, Stop, TalkError};
@@ -47,6 +47,17 @@ pub fn part<K: Sink>(output: &mut K, fixed: Fixed, why: TalkError) -> TalkError
     match say(output, fixed) {
         Ok(()) => why,
         Err(WriteFailed) => TalkError::WriteFault,
+    }
+}
+
+/// Writes 503 `no_memory` as the reply to a run that was given up for want of memory, as far as that goes. The park
+/// stands in the history, so the session breaks off for want of memory where the write fails too.
+pub fn part_out<K: Sink>(output: &mut K) -> TalkError
+    ensures { PartsOut result (K.sink output.old) (K.sink output.new) }
+{
+    match say(output, Fixed::NoMemory) {
+        Ok(()) => TalkError::NoMemory,
+        Err(WriteFailed) => TalkError::NoMemory,
     }
 }
 
