@@ -1,11 +1,13 @@
 #!/usr/bin/env python3
-"""Lists the functions of a crate whose proofs take the most time: runs `rt check` on it from nothing, in a clone of what is committed, and reads how many
-processor seconds the prover has used each time that it says `checked F, n of N`.
+"""Lists the functions of a crate whose proofs take the most time: runs `rt check` on it from nothing, in a clone of what
+is committed, and reads how many processor seconds the prover has used each time that it says `checked F, n of N`.
 
-The seconds between two such lines stand at the later one. So the first holds the load of all libraries too, and is printed apart; and the first caller
-of a helper may hold what the helper's contract brings along. Read them by groups, and repeat a run before a decision: they differ by 10 to 20 %.
+The seconds between two such lines stand at the later one. So the first holds the load of all libraries too, and is
+printed apart; and the first caller of a helper may hold what the helper's contract brings along. Read them by groups,
+and repeat a run before a decision: they differ by 10 to 20 %.
 
-The libraries below the crate are built first, which is not counted: a few minutes low down, over an hour for the highest crates, or nothing with --out-of.
+The libraries below the crate are built first, which is not counted: nothing for the lowest, some 25 processor minutes
+for the highest, or nothing with --out-of.
 """
 import argparse
 import os
@@ -63,7 +65,8 @@ def check(name, folder, log, tests):
     words = ["rt", "check", "--progress", "--jobs", "1", *(["--test"] if tests else [])]
     stamps = Stamps(name)
     with open(log, "a", encoding="utf-8") as out:
-        run = subprocess.Popen(words, cwd=folder, stdin=subprocess.DEVNULL, stdout=subprocess.PIPE, stderr=subprocess.STDOUT, text=True, errors="replace")
+        how = {"stdin": subprocess.DEVNULL, "stdout": subprocess.PIPE, "stderr": subprocess.STDOUT}
+        run = subprocess.Popen(words, cwd=folder, text=True, errors="replace", **how)
         try:
             for line in run.stdout:
                 stamps.take(line, run.pid)

@@ -1,15 +1,17 @@
 #!/usr/bin/env python3
-"""Tries every edit that must fail: those of crates/NAME/must-fail, which the gate tries too, and those of crates/NAME/more-edits,
-which it leaves out. Each must be refused by the prover of its crate.
+"""Tries every edit that must fail: those of crates/NAME/must-fail, which the gate tries too, and those of
+crates/NAME/more-edits, which it leaves out. Each must be refused by the prover of its crate.
 
-It works on what is committed, in a clone in a temporary folder, where each crate's more-edits are moved beside its must-fail; `rt must-fail`
-then tries crate by crate, lowest first. It prints each edit that isn't refused and each BAD EDIT (one that doesn't apply, compile or
-read), then a line for the crate, and ends with the counts. The status is 1 where any edit wasn't refused.
+It works on what is committed, in a clone in a temporary folder, where each crate's more-edits are moved beside its
+must-fail; `rt must-fail` then tries crate by crate, lowest first. It prints each edit that isn't refused and each BAD
+EDIT (one that doesn't apply, compile or read), then a line for the crate, and ends with the counts. The status is 1
+where any edit wasn't refused.
 
-How long: a crate's first edit costs a whole check of it, each further one 20 to 45 processor seconds low down and 60 to 130 high up, and in the end
-the unchanged crate is checked once more. All of them are some four processor hours, and the libraries, which are built in the clone first, one
-more; so five hours with one lane, and with four lanes on four idle processors about an hour and a half. One low crate takes 5 to 12 minutes, and 2 to 4 GB
-of memory is wanted for each lane. With --applies it takes a second and proves nothing.
+How long: a crate's first edit costs a whole check of it, each further one 20 to 45 processor seconds low down and 60
+to 130 high up, and in the end the unchanged crate is checked once more. All of them are some four to five processor
+hours, of which the libraries, which are built in the clone first, take half an hour; so four to five hours by the
+clock with one lane, and with four lanes on four idle processors about an hour and a half. One low crate takes 2 to 12
+minutes; each lane wants 2 to 4 GB of memory. With --applies it takes a second and proves nothing.
 """
 import argparse
 import glob
@@ -26,6 +28,8 @@ import time
 import scratch
 
 FOLDERS = ("must-fail", "more-edits")
+# What is read of `rt`: both of its streams, as text.
+HOW = {"stdin": subprocess.DEVNULL, "stderr": subprocess.STDOUT, "text": True, "errors": "replace"}
 TRIED = re.compile(r"must-fail (\w+)/(\S+)\.edit: (refused|NOT REFUSED|BAD EDIT)(.*)")
 
 
@@ -35,7 +39,7 @@ def edits_of(folder, name):
 
 
 def flaw_of(file, crate):
-    """Why an edit can't be applied to the crate in this folder: each old text stands exactly once in its file, after the pairs before it."""
+    """Why an edit can't be applied to the crate in this folder. Each old text stands once in its file, after the pairs before it."""
     path, old, texts = None, None, {}
     with open(file, encoding="utf-8") as lines:
         for line in lines.read().split("\n"):
@@ -136,7 +140,7 @@ class Trial:
     def crate(self, folder, name):
         began = time.time()
         words = ["rt", "must-fail", name]
-        run = subprocess.Popen(words, cwd=folder, stdin=subprocess.DEVNULL, stdout=subprocess.PIPE, stderr=subprocess.STDOUT, text=True, errors="replace")
+        run = subprocess.Popen(words, cwd=folder, **HOW, stdout=subprocess.PIPE)
         self.running.append(run)
         said, seen, refused = [], 0, 0
         for line in run.stdout:
@@ -179,9 +183,10 @@ def tried(names, known, lanes, finished):
         lanes = max(1, min(lanes, len(trial.queue)))
         try:
             if lanes > 1:
-                # Two `rt must-fail` in one clone would build the same library at once, so each lane has a clone with the libraries built.
+                # Two `rt must-fail` in one clone would build the same library at once, so each lane has a clone of its own.
                 cut_down(first, names, known)
-                built = subprocess.run(["rt", "all", "check", "--jobs", str(lanes)], cwd=first, stdin=subprocess.DEVNULL, stdout=subprocess.PIPE, stderr=subprocess.STDOUT, text=True)
+                words = ["rt", "all", "check", "--jobs", str(lanes)]
+                built = subprocess.run(words, cwd=first, **HOW, stdout=subprocess.PIPE)
                 if built.returncode:
                     print(built.stdout[-3000:])
                     raise SystemExit("the crates themselves aren't proved, so no edit was tried")

@@ -1,19 +1,21 @@
 #!/usr/bin/env python3
-"""Measures the gate: runs `rt ci`, or the command behind --, and prints the processor seconds of each crate's proof, tests, edits and builds.
+"""Measures the gate: runs `rt ci`, or the command behind --, and prints the processor seconds of each crate's proof,
+tests, edits and builds.
 
-It works on what is committed, in a clone in a temporary folder, or in the folder that --in names. Twice a second it reads from /proc what each process
-of that command has used, so what a process does in its last half second is lost: "seen" says how much of the whole (which the system counts exactly) was
-seen. Other work on the machine is not counted, but it makes each process somewhat dearer, by 10 to 40 % where the processors are full.
+It works on what is committed, in a clone in a temporary folder, or in the folder that --in names. Twice a second it
+reads from /proc what each process of that command has used, so what a process does in its last half second is lost:
+"seen" says how much of the whole (which the system counts exactly) was seen. Other work on the machine is not
+counted, but it makes each process somewhat dearer, by 10 to 40 % where the processors are full.
 
     proof    the crate proved from nothing, and for a library its build
     tests    the crate proved once more with its tests, and their build
-    edits    the edits of must-fail, and the unchanged crate once more; runs: how many checks that were, first: seconds of the first of them,
-             each: of the further ones in the mean
+    edits    the edits of must-fail, and the unchanged crate once more; runs: how many checks that were,
+             first: seconds of the first of them, each: of the further ones in the mean
     builds   what two compilers make of a proved program
     rest     rt itself, layout, running the tests and programs
 
-A gate that takes 400 processor minutes takes some two hours on four processors. An interrupt ends the command and prints what was measured so far.
-The status is the command's.
+A gate that takes 400 processor minutes takes some two hours on four processors. An interrupt ends the command and
+prints what was measured so far. The status is the command's.
 """
 import argparse
 import contextlib
@@ -126,7 +128,7 @@ def longest_chain(known, crates):
 
 
 def figures(meter, run, whole):
-    """All that was measured, as --json writes it. Seconds throughout; those that begin with `clock` by the clock, the others of a processor."""
+    """All that was measured, as --json writes it: processor seconds, but for those by the clock."""
     crates, rest = meter.sums()
     chain_seconds, chain = longest_chain(meter.known, crates)
     seen = rest + sum(line[kind] for line in crates.values() for kind in KINDS)
@@ -140,7 +142,10 @@ def figures(meter, run, whole):
         "chain": chain,
         "chain_seconds": round(chain_seconds, 1),
         "crates": {
-            name: {**{kind: round(line[kind], 1) for kind in KINDS}, "edit_runs": [round(it, 1) for it in line["edit_runs"]]}
+            name: {
+                **{kind: round(line[kind], 1) for kind in KINDS},
+                "edit_runs": [round(seconds, 1) for seconds in line["edit_runs"]],
+            }
             for name, line in crates.items()
             if any(line[kind] for kind in KINDS)
         },
@@ -149,19 +154,25 @@ def figures(meter, run, whole):
 
 def printed(it):
     """The table that is printed at the end."""
-    lines = [f"{'crate':14}" + "".join(f"{word:>8}" for word in ("proof", "tests", "edits", "runs", "first", "each", "builds", "all"))]
+    words = ("proof", "tests", "edits", "runs", "first", "each", "builds", "all")
+    lines = [f"{'crate':14}" + "".join(f"{word:>8}" for word in words)]
     for name, line in it["crates"].items():
         runs = line["edit_runs"]
-        each = sum(runs[1:]) / len(runs[1:]) if runs[1:] else 0
-        cells = [line["proof"], line["tests"], line["edits"], len(runs), runs[0] if runs else 0, each, line["builds"], sum(line[kind] for kind in KINDS)]
-        lines.append(f"{name:14}" + "".join(f"{cell:8.0f}" for cell in cells))
+        first, further = runs[0] if runs else 0, runs[1:]
+        each = sum(further) / len(further) if further else 0
+        cells = [line["proof"], line["tests"], line["edits"], len(runs), first, each, line["builds"]]
+        whole = sum(line[kind] for kind in KINDS)
+        lines.append(f"{name:14}" + "".join(f"{cell:8.0f}" for cell in [*cells, whole]))
     kinds = it["kinds"]
-    cells = [f"{kinds['proof']:8.0f}", f"{kinds['tests']:8.0f}", f"{kinds['edits']:8.0f}", " " * 24, f"{kinds['builds']:8.0f}", f"{sum(kinds.values()):8.0f}"]
-    lines.append(f"{'seconds':14}" + "".join(cells))
-    lines.append(f"{'minutes':14}" + "".join(cell if not cell.strip() else f"{float(cell) / 60:8.1f}" for cell in cells))
-    lines.append(f"rest: {it['rest_seconds'] / 60:.1f} minutes; seen in all: {it['seen_seconds'] / 60:.1f} processor minutes" + (f" of {it['seconds'] / 60:.1f}" if it["seconds"] else ""))
+    for unit, size, digits in (("seconds", 1, 0), ("minutes", 60, 1)):
+        cells = [f"{seconds / size:8.{digits}f}" for seconds in [*kinds.values(), sum(kinds.values())]]
+        lines.append(f"{unit:14}" + "".join([*cells[:3], " " * 24, *cells[3:]]))
+    of = f" of {it['seconds'] / 60:.1f}" if it["seconds"] else ""
+    seen, rest = it["seen_seconds"] / 60, it["rest_seconds"] / 60
+    lines.append(f"seen in all: {seen:.1f}{of} processor minutes, of which the rest {rest:.1f}")
     lines.append(f"the longest chain of proofs: {it['chain_seconds'] / 60:.1f} minutes, {' < '.join(it['chain'])}")
-    lines.append(f"by the clock: {it['clock_seconds'] / 60:.1f} minutes on {it['processors']} processors (load at the start {it['load']})")
+    machine = f"{it['processors']} processors, load at the start {it['load']}"
+    lines.append(f"by the clock: {it['clock_seconds'] / 60:.1f} minutes ({machine})")
     return "\n".join(lines)
 
 
