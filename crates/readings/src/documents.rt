@@ -84,9 +84,18 @@ fn list(parts: &mut Vec<Piece>, alloc: Global) -> Result<Doc, NoMemory> {
 fn object(parts: &mut Vec<Piece>, alloc: Global) -> Result<Doc, NoMemory> {
     let mut members = Members::new(alloc);
     for (name, doc) in pairs(parts, alloc)? {
-        members.put_at(name.as_slice(), doc)?;
+        put(&mut members, name.as_slice(), doc)?;
     }
     Ok(members.done())
+}
+
+// Puts a member, a number and a null by the call for an amount that there may be.
+fn put(members: &mut Members, name: &[u8], doc: Doc) -> Result<(), NoMemory> {
+    match (str::from_utf8(name), doc) {
+        (Ok(key), Doc::Number(number)) => members.number_or_null(key, Some(number)),
+        (Ok(key), Doc::Null) => members.number_or_null(key, None),
+        (_, doc) => members.put_at(name, doc),
+    }
 }
 
 // The names and documents behind the last opening, as they were written.
