@@ -3,6 +3,7 @@
 //! A file begins with lines that describe it, and a case with a line `== NAME | FIELD | FIELD ..`. It ends where the
 //! next one begins, or with the file.
 
+use ph_base::NoMemory;
 use std::alloc::{AllocError, AllocFailed};
 
 /// Why a case isn't run to its end.
@@ -21,6 +22,12 @@ impl From<AllocError> for CaseError {
 
 impl<T: Drop> From<AllocFailed<T>> for CaseError {
     fn from(_: AllocFailed<T>) -> Self {
+        CaseError::NoMemory
+    }
+}
+
+impl From<NoMemory> for CaseError {
+    fn from(_: NoMemory) -> Self {
         CaseError::NoMemory
     }
 }

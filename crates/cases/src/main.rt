@@ -7,9 +7,12 @@
 #![tactic(auto)]
 
 mod case;
+mod escape;
 mod file;
 mod history;
+mod input;
 mod session;
+mod setup;
 
 use crate::file::run_file;
 use std::io::{self, Write};
