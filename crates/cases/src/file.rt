@@ -1,0 +1,82 @@
+//! A file of cases.
+
+use crate::case::{Case, CaseError};
+use crate::{history, session};
+use std::alloc::{AllocError, AllocFailed, Global};
+use std::fmt;
+
+/// Why a file isn't run to its end.
+#[derive(Debug, Drop)]
+pub enum FileError<'t> {
+    /// A line of this number, from 1, isn't understood, in the case of this name.
+    Line { case: &'t str, number: usize },
+    /// The first line is a case's, and doesn't describe the file.
+    Undescribed,
+    NoMemory,
+}
+
+impl fmt::Display for FileError<'_> {
+    fn fmt<W: fmt::Write>(&self, f: &mut fmt::Formatter<W>) -> fmt::Result {
+        match self {
+            FileError::Line { case, number } => write!(
+                f,
+                "line {number}, in the case '{case}', isn't understood"
+            ),
+            FileError::Undescribed => write!(f, "the first line doesn't describe the file"),
+            FileError::NoMemory => write!(f, "there is no memory"),
+        }
+    }
+}
+
+impl From<AllocError> for FileError<'_> {
+    fn from(_: AllocError) -> Self {
+        FileError::NoMemory
+    }
+}
+
+impl<T: Drop> From<AllocFailed<T>> for FileError<'_> {
+    fn from(_: AllocFailed<T>) -> Self {
+        FileError::NoMemory
+    }
+}
+
+/// Runs the cases of a file, in their order, and gives what they print.
+pub fn run_file<'t>(alloc: Global, name: &str, text: &'t str) -> Result<Vec<u8>, FileError<'t>> {
+    if text.starts_with("== ") {
+        return Err(FileError::Undescribed);
+    }
+    let are_histories = name.split('/').any(|part| part == "histories");
+    let mut output = Vec::new(alloc);
+    let mut above = 0;
+    for (i, part) in text.split("\n== ").enumerate() {
+        if i > 0 {
+            add_case(alloc, &mut output, are_histories, above, part)?;
+        }
+        above = part.split('\n').count().saturating_add(above);
+    }
+    Ok(output)
+}
+
+// Adds what a case prints, above which so many lines stand.
+fn add_case<'t>(
+    alloc: Global,
+    output: &mut Vec<u8>,
+    is_history: bool,
+    above: usize,
+    text: &'t str,
+) -> Result<(), FileError<'t>> {
+    let case = Case::new(text);
+    let printed = if is_history {
+        history::run_case(alloc, &case)
+    } else {
+        session::run_case(alloc, &case)
+    };
+    match printed {
+        Ok(bytes) => Ok(output.extend_from_slice(bytes.as_slice())?),
+        Err(CaseError::NoMemory) => Err(FileError::NoMemory),
+        Err(CaseError::Line(line)) => Err(FileError::Line {
+            case: case.name(),
+            number: above.saturating_add(line).saturating_add(1),
+        }),
+    }
+}
