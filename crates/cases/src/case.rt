@@ -1,4 +1,4 @@
-//! A case of a file: what both kinds of cases share.
+//! A case of a file: what all kinds of cases share.
 //!
 //! A file begins with lines that describe it, and a case with a line `== NAME | FIELD | FIELD ..`. It ends where the
 //! next one begins, or with the file.

@@ -1,7 +1,7 @@
 //! A file of cases.
 
 use crate::case::{Case, CaseError};
-use crate::{history, session};
+use crate::{history, serving, session};
 use std::alloc::{AllocError, AllocFailed, Global};
 use std::fmt;
 
@@ -40,17 +40,34 @@ impl<T: Drop> From<AllocFailed<T>> for FileError<'_> {
     }
 }
 
+// What the cases of a file are.
+#[derive(Clone, Copy)]
+enum Kind {
+    Sessions,
+    Histories,
+    Books,
+}
+
+// By the folder that the file stands in.
+fn kind_of(name: &str) -> Kind {
+    match name.split('/').rev().nth(1) {
+        Some("histories") => Kind::Histories,
+        Some("books") => Kind::Books,
+        _ => Kind::Sessions,
+    }
+}
+
 /// Runs the cases of a file, in their order, and gives what they print.
 pub fn run_file<'t>(alloc: Global, name: &str, text: &'t str) -> Result<Vec<u8>, FileError<'t>> {
     if text.starts_with("== ") {
         return Err(FileError::Undescribed);
     }
-    let are_histories = name.split('/').any(|part| part == "histories");
+    let kind = kind_of(name);
     let mut output = Vec::new(alloc);
     let mut above = 0;
     for (i, part) in text.split("\n== ").enumerate() {
         if i > 0 {
-            add_case(alloc, &mut output, are_histories, above, part)?;
+            add_case(alloc, &mut output, kind, above, part)?;
         }
         above = part.split('\n').count().saturating_add(above);
     }
@@ -61,15 +78,15 @@ pub fn run_file<'t>(alloc: Global, name: &str, text: &'t str) -> Result<Vec<u8>,
 fn add_case<'t>(
     alloc: Global,
     output: &mut Vec<u8>,
-    is_history: bool,
+    kind: Kind,
     above: usize,
     text: &'t str,
 ) -> Result<(), FileError<'t>> {
     let case = Case::new(text);
-    let printed = if is_history {
-        history::run_case(alloc, &case)
-    } else {
-        session::run_case(alloc, &case)
+    let printed = match kind {
+        Kind::Sessions => session::run_case(alloc, &case),
+        Kind::Histories => history::run_case(alloc, &case),
+        Kind::Books => serving::run_case(alloc, &case),
     };
     match printed {
         Ok(bytes) => Ok(output.extend_from_slice(bytes.as_slice())?),

@@ -1,8 +1,8 @@
 //! Runs the cases of its data files, and prints what each one gives.
 //!
 //! The arguments name the files, in the order in which they are run: those in `histories/` hold entries of a book
-//! (`history.rt`), the others bytes that are sent to the top call (`session.rt`). Both kinds have the form that
-//! `case.rt` describes. A file that can't be read, and a line that isn't understood, end the program with an error and
+//! (`history.rt`), those in `books/` sessions over one book (`serving.rt`), the others bytes that are sent to the top
+//! call (`session.rt`). All have the form that `case.rt` describes. A file that can't be read, and a line that isn't understood, end the program with an error and
 //! status 1.
 #![tactic(auto)]
 
@@ -11,6 +11,7 @@ mod escape;
 mod file;
 mod history;
 mod input;
+mod serving;
 mod session;
 mod setup;
 
