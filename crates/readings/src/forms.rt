@@ -1,5 +1,7 @@
 //! Forms: the leaves of a query and a body, what stands at a name, or the first fault and its place.
 
+ghost use Rattle.std.specs.Prelude.{◌<◌};
+
 use crate::line::{Line, said, unknown};
 use ph_base::NoMemory;
 use ph_form::{Form, FormFault, Leaf, read_form};
