@@ -1,0 +1,5 @@
+//! Sessions over a book, and the rows that they leave.
+
+mod calls;
+mod documents;
+mod served;
