@@ -7,12 +7,15 @@
 #![tactic(auto)]
 
 mod case;
+mod desk;
 mod escape;
 mod file;
 mod history;
 mod input;
 mod session;
 mod setup;
+mod shown;
+mod step;
 
 use crate::file::run_file;
 use std::io::{self, Write};
