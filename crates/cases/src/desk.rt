@@ -1,10 +1,17 @@
 //! A book, and the tickets in hand.
+ghost use Rattle.std.specs.Prelude.{◌≡◌, ◌<◌, ◌≤◌, true, false, [], length, OnOk, OnErr, IfSome};
+ghost use Rattle.ph_base.specs.declared.acquirer.Why.TheVariants as why_given;
+ghost use Rattle.ph_rows.specs.Sound.{clock_limit};
+ghost use Rattle.ph_book.specs.State.{entered};
+ghost use Rattle.ph_book.specs.Entries.{finish_entry, park_entry};
+ghost use Rattle.ph_book.specs.Tickets.{Holds};
 
 use ph_attempts::Ticket;
 use ph_base::{NoMemory, Ruling, Why};
 use ph_book::{Act, Answer, Book, Refused, Setup};
 use ph_http::{Raw, Reply};
 use std::alloc::Global;
+use std::marker::Model;
 
 /// What an act comes to.
 #[derive(Drop)]
@@ -16,15 +23,27 @@ pub enum Said {
     Full,
 }
 
-/// A book, and the tickets of its live runs, the earliest first.
+/// A book, and the tickets of its live runs, the earliest first. Contracts see the book and the tickets.
 pub struct Desk {
     book: Book,
     tickets: Vec<Ticket>,
 }
 
+impl Model for Desk {
+    ghost use Rattle.cases.specs.Desks.{AreHeld, DeskState};
+
+    ghost Value = { DeskState };
+
+    ghost view = { λ d. record { book = d.book; tickets = d.tickets.items } };
+
+    ghost invariant = { λ d. AreHeld d.book.setup d.book.history d.tickets.items };
+}
+
 impl Desk {
     /// A book without entries.
-    pub fn new(alloc: Global, setup: Setup) -> Result<Desk, NoMemory> {
+    pub fn new(alloc: Global, setup: Setup) -> Result<Desk, NoMemory>
+        requires opened { setup.opened ≤ clock_limit }
+    {
         Ok(Desk {
             book: Book::new(alloc, setup)?,
             tickets: Vec::new(alloc),
@@ -36,7 +55,9 @@ impl Desk {
     }
 
     /// The place among the tickets in hand of that with a reference, or of the earliest one.
-    pub fn place_of(&self, reference: Option<u64>) -> Option<usize> {
+    pub fn place_of(&self, reference: Option<u64>) -> Option<usize>
+        ensures { IfSome result (λ at. at < length self.now.tickets) }
+    {
         self.tickets.iter().position(|ticket| match reference {
             Some(reference) => ticket.order().reference == reference,
             None => true,
@@ -62,19 +83,29 @@ impl Desk {
     }
 
     /// Enters a ruling on the order of the run whose ticket stands at this place.
-    pub fn finish(&mut self, at: usize, ruling: Ruling) -> Result<Said, NoMemory> {
+    pub fn finish(&mut self, at: usize, ruling: Ruling) -> Result<Said, NoMemory>
+        requires within { at < length self.old.tickets }
+    {
         let ticket = self.tickets.remove(at);
-        Ok(Said::Reply(finish(&mut self.book, ticket, ruling)?))
+        match finish(&mut self.book, ticket, ruling) {
+            Ok(reply) => Ok(Said::Reply(reply)),
+            Err(NoMemory) => Err(NoMemory),
+        }
     }
 
     /// Gives up the run whose ticket stands at this place.
-    pub fn park(&mut self, at: usize, why: Why) -> Said {
+    pub fn park(&mut self, at: usize, why: Why) -> Said
+        requires within { at < length self.old.tickets }
+        ensures left { length self.new.tickets < length self.old.tickets }
+    {
         let ticket = self.tickets.remove(at);
         Said::Reply(park(&mut self.book, ticket, why))
     }
 
     /// Enters a moment of the clock.
-    pub fn tick(&mut self, moment: u64) -> Result<Said, NoMemory> {
+    pub fn tick(&mut self, moment: u64) -> Result<Said, NoMemory>
+        requires clock { moment ≤ clock_limit }
+    {
         match self.book.apply(0, Act::Tick(moment)) {
             Ok(answer) => {
                 let Answer::Done = answer else { unreachable!() };
@@ -87,9 +118,16 @@ impl Desk {
         }
     }
 
+    fn is_idle(&self) -> bool
+        ensures idle { result ≡ true → self.now.tickets ≡ [] }
+        ensures busy { result ≡ false → 0 < length self.now.tickets }
+    {
+        self.tickets.is_empty()
+    }
+
     /// Gives up the runs that are live.
     pub fn close(mut self) {
-        while !self.tickets.is_empty() {
+        while !self.is_idle() {
             let _ = self.park(0, Why::Pending);
         }
         let Desk { book: _, tickets } = self;
@@ -105,7 +143,11 @@ fn refusal(refused: Refused) -> Result<Said, NoMemory> {
 }
 
 // Enters a ruling on the order of a ticket's run. Where there is no memory, the run is given up.
-fn finish(book: &mut Book, ticket: Ticket, ruling: Ruling) -> Result<Reply, NoMemory> {
+fn finish(book: &mut Book, ticket: Ticket, ruling: Ruling) -> Result<Reply, NoMemory>
+    requires own { Holds book.old.setup book.old.history 0 ticket }
+    ensures entered { OnOk result (book.new ≡ entered book.old (finish_entry 0 ticket ruling)) }
+    ensures given_up { OnErr result (book.new ≡ entered book.old (park_entry 0 ticket why_given.NoMemory)) }
+{
     match book.apply(0, Act::Finish(ticket, ruling)) {
         Ok(answer) => {
             let Answer::Reply(reply) = answer else {
@@ -124,7 +166,10 @@ fn finish(book: &mut Book, ticket: Ticket, ruling: Ruling) -> Result<Reply, NoMe
 }
 
 // Gives up the run of a ticket.
-fn park(book: &mut Book, ticket: Ticket, why: Why) -> Reply {
+fn park(book: &mut Book, ticket: Ticket, why: Why) -> Reply
+    requires own { Holds book.old.setup book.old.history 0 ticket }
+    ensures entered { book.new ≡ entered book.old (park_entry 0 ticket why) }
+{
     let entered = book.apply(0, Act::Park(ticket, why));
     let Ok(answer) = entered else { unreachable!() };
     let Answer::Reply(reply) = answer else {

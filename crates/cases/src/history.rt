@@ -8,15 +8,16 @@ use crate::desk::{Desk, Said};
 use crate::escape::add_unescaped;
 use crate::shown::{add_number, add_row, add_signed};
 use crate::step::{Request, Step, step_of};
-use ph_base::{Bytes, NoMemory, read_number};
+use ph_base::{Bytes, read_number};
 use ph_book::{Book, Setup};
 use ph_http::{Raw, Reply};
+use ph_money::Currency;
 use ph_rows::{CLOCK_LIMIT, View};
 use std::alloc::{AllocError, Global};
 
 const KEY: &str = "sk_test_payhost";
 
-/// The numbers of a book's setup.
+// What the fields say of a book's setup.
 #[derive(Clone, Copy)]
 struct Opening<'t> {
     opened: u64,
@@ -30,7 +31,11 @@ pub fn run_case(alloc: Global, case: &Case<'_>) -> Result<Vec<u8>, CaseError> {
     let Some(opening) = opening_of(case.fields()) else {
         return Err(CaseError::Line(0));
     };
-    let mut desk = Desk::new(alloc, setup_of(alloc, &opening)?)?;
+    let setup = setup_of(alloc, &opening)?;
+    if setup.opened > CLOCK_LIMIT {
+        return Err(CaseError::Line(0));
+    }
+    let mut desk = Desk::new(alloc, setup)?;
     let printed = printed(alloc, case, &mut desk);
     desk.close();
     printed
@@ -45,15 +50,14 @@ fn opening_of(fields: &str) -> Option<Opening<'_>> {
         key: KEY,
     };
     for field in fields.split('|') {
-        opening = opening_with(opening, field.trim())?;
+        if !field.trim().is_empty() {
+            opening = opening_with(opening, field.trim())?;
+        }
     }
     Some(opening)
 }
 
 fn opening_with<'t>(mut opening: Opening<'t>, field: &'t str) -> Option<Opening<'t>> {
-    if field.is_empty() {
-        return Some(opening);
-    }
     let (word, value) = field.split_once(' ')?;
     match word {
         "clock" => opening.opened = read_number(value.as_bytes())?,
@@ -61,9 +65,6 @@ fn opening_with<'t>(mut opening: Opening<'t>, field: &'t str) -> Option<Opening<
         "weight" => opening.weight = read_number(value.as_bytes())?,
         "key" => opening.key = value,
         _ => return None,
-    }
-    if opening.opened > CLOCK_LIMIT {
-        return None;
     }
     Some(opening)
 }
@@ -120,28 +121,56 @@ fn add_step(
     add_line(output, line)?;
     output.extend_from_slice(b"-> ")?;
     let rows = desk.book().count();
+    add_answer(alloc, output, desk, &step, number)?;
+    add_rows(alloc, output, desk.book(), rows)?;
+    Ok(())
+}
+
+// Takes a step, and adds what it is answered.
+fn add_answer(
+    alloc: Global,
+    output: &mut Vec<u8>,
+    desk: &mut Desk,
+    step: &Step<'_>,
+    line: usize,
+) -> Result<(), CaseError> {
     match step {
         Step::Entries => add_counts(alloc, output, desk.book())?,
         Step::Balance(account, currency) => {
-            let available = desk.book().available(account, currency);
-            let pending = desk.book().pending(account, currency);
-            add_balance(alloc, output, available, pending)?;
+            add_balance(alloc, output, desk.book(), *account, *currency)?;
         }
-        Step::Call(request) => {
-            let raw = raw_of(alloc, desk.book().setup().key.as_slice(), &request, number)?;
-            add_said(alloc, output, desk.call(raw)?)?;
+        Step::Call(_) | Step::Finish(_, _) | Step::Park(_, _) | Step::Tick(_) => {
+            add_said(alloc, output, said(alloc, desk, step, line)?)?;
         }
-        Step::Finish(ruling, reference) => match desk.place_of(reference) {
-            Some(at) => add_said(alloc, output, desk.finish(at, ruling)?)?,
-            None => return Err(CaseError::Line(number)),
-        },
-        Step::Park(why, reference) => match desk.place_of(reference) {
-            Some(at) => add_said(alloc, output, desk.park(at, why))?,
-            None => return Err(CaseError::Line(number)),
-        },
-        Step::Tick(moment) => add_said(alloc, output, desk.tick(moment)?)?,
     }
-    Ok(add_rows(alloc, output, desk.book(), rows)?)
+    Ok(())
+}
+
+// What a step comes to that is an act.
+fn said(alloc: Global, desk: &mut Desk, step: &Step<'_>, line: usize) -> Result<Said, CaseError> {
+    match step {
+        Step::Call(request) => call(alloc, desk, request, line),
+        Step::Finish(ruling, reference) => match desk.place_of(*reference) {
+            Some(at) => Ok(desk.finish(at, *ruling)?),
+            None => Err(CaseError::Line(line)),
+        },
+        Step::Park(why, reference) => match desk.place_of(*reference) {
+            Some(at) => Ok(desk.park(at, *why)),
+            None => Err(CaseError::Line(line)),
+        },
+        Step::Tick(moment) if *moment <= CLOCK_LIMIT => Ok(desk.tick(*moment)?),
+        Step::Tick(_) | Step::Entries | Step::Balance(_, _) => Err(CaseError::Line(line)),
+    }
+}
+
+fn call(
+    alloc: Global,
+    desk: &mut Desk,
+    request: &Request<'_>,
+    line: usize,
+) -> Result<Said, CaseError> {
+    let raw = raw_of(alloc, desk.book().setup().key.as_slice(), request, line)?;
+    Ok(desk.call(raw)?)
 }
 
 fn add_counts(alloc: Global, output: &mut Vec<u8>, book: &Book) -> Result<(), AllocError> {
@@ -154,13 +183,14 @@ fn add_counts(alloc: Global, output: &mut Vec<u8>, book: &Book) -> Result<(), Al
 fn add_balance(
     alloc: Global,
     output: &mut Vec<u8>,
-    available: i64,
-    pending: i64,
+    book: &Book,
+    account: u64,
+    currency: Currency,
 ) -> Result<(), AllocError> {
     output.extend_from_slice(b"available ")?;
-    add_signed(alloc, output, available)?;
+    add_signed(alloc, output, book.available(account, currency))?;
     output.extend_from_slice(b" pending ")?;
-    add_signed(alloc, output, pending)?;
+    add_signed(alloc, output, book.pending(account, currency))?;
     add_line(output, "")
 }
 
@@ -205,12 +235,7 @@ fn add_rows(
 }
 
 // The request of a line, under a key where it presents no other credentials.
-fn raw_of(
-    alloc: Global,
-    key: &[u8],
-    request: &Request<'_>,
-    line: usize,
-) -> Result<Raw, CaseError> {
+fn raw_of(alloc: Global, key: &[u8], request: &Request<'_>, line: usize) -> Result<Raw, CaseError> {
     let (path, query) = match request.target.split_once('?') {
         Some((path, query)) => (path, Some(query)),
         None => (request.target, None),

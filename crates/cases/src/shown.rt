@@ -14,21 +14,13 @@ use std::alloc::{AllocError, Global};
 const DIGITS: &[u8; 16] = b"0123456789abcdef";
 
 /// Adds a number in digits.
-pub fn add_number(
-    alloc: Global,
-    shown: &mut Vec<u8>,
-    number: u64,
-) -> Result<(), AllocError> {
+pub fn add_number(alloc: Global, shown: &mut Vec<u8>, number: u64) -> Result<(), AllocError> {
     let text = number.to_string(alloc)?;
     shown.extend_from_slice(text.as_bytes())
 }
 
 /// Adds a number in digits, with `-` before one below 0.
-pub fn add_signed(
-    alloc: Global,
-    shown: &mut Vec<u8>,
-    number: i64,
-) -> Result<(), AllocError> {
+pub fn add_signed(alloc: Global, shown: &mut Vec<u8>, number: i64) -> Result<(), AllocError> {
     let text = number.to_string(alloc)?;
     shown.extend_from_slice(text.as_bytes())
 }
@@ -219,11 +211,7 @@ fn state_word(state: AttemptState) -> &'static [u8] {
     }
 }
 
-fn add_method_word(
-    alloc: Global,
-    shown: &mut Vec<u8>,
-    method: Method,
-) -> Result<(), AllocError> {
+fn add_method_word(alloc: Global, shown: &mut Vec<u8>, method: Method) -> Result<(), AllocError> {
     match method {
         Method::Visa => add_word(shown, b"visa"),
         Method::Declined => add_word(shown, b"declined"),
@@ -246,11 +234,7 @@ fn add_order(alloc: Global, shown: &mut Vec<u8>, order: Order) -> Result<(), All
     add_named_number(alloc, shown, b"reference", order.reference)
 }
 
-fn add_attempt(
-    alloc: Global,
-    shown: &mut Vec<u8>,
-    attempt: &Attempt,
-) -> Result<(), AllocError> {
+fn add_attempt(alloc: Global, shown: &mut Vec<u8>, attempt: &Attempt) -> Result<(), AllocError> {
     shown.extend_from_slice(b" attempt")?;
     add_word(shown, state_word(attempt.state))?;
     add_order(alloc, shown, attempt.order)?;
@@ -297,11 +281,7 @@ fn add_refund(alloc: Global, shown: &mut Vec<u8>, refund: &Refund) -> Result<(),
     add_pairs(shown, &refund.metadata)
 }
 
-fn add_dispute(
-    alloc: Global,
-    shown: &mut Vec<u8>,
-    dispute: &Dispute,
-) -> Result<(), AllocError> {
+fn add_dispute(alloc: Global, shown: &mut Vec<u8>, dispute: &Dispute) -> Result<(), AllocError> {
     shown.extend_from_slice(b" dispute")?;
     add_word(shown, dispute.status.text())?;
     add_amount(alloc, shown, dispute.amount, dispute.currency)?;

@@ -15,7 +15,6 @@
 
 use ph_base::{Decline, Ruling, Why, read_number};
 use ph_money::Currency;
-use ph_rows::CLOCK_LIMIT;
 
 /// A request as a line writes it.
 #[derive(Clone, Copy)]
@@ -82,21 +81,11 @@ fn prefixed<'t>(line: &'t str, word: &str) -> (Option<&'t str>, &'t str) {
 fn act_of(line: &str) -> Option<Step<'_>> {
     let (word, rest) = line.split_once(' ').unwrap_or((line, ""));
     match word {
-        "tick" => Some(Step::Tick(moment_of(rest)?)),
+        "tick" => Some(Step::Tick(read_number(rest.as_bytes())?)),
         "entries" if rest.is_empty() => Some(Step::Entries),
         "balance" => balance_of(rest),
         "park" => park_of(rest),
         _ => Some(Step::Finish(ruling_of(word)?, reference_of(rest)?)),
-    }
-}
-
-// A moment that a clock shows.
-fn moment_of(text: &str) -> Option<u64> {
-    let moment = read_number(text.as_bytes())?;
-    if moment > CLOCK_LIMIT {
-        None
-    } else {
-        Some(moment)
     }
 }
 
