@@ -28,7 +28,7 @@ use Rattle.ph_book.specs.Tickets.{Holds}
 use Rattle.ph_book.proofs.EffectLemmas.{effect_orderly, history_counted}
 use Rattle.ph_book.proofs.HistoryLemmas.{attempts_more, length_past, past_more}
 use Rattle.ph_book.proofs.RunLemmas.{AreBelow, AreKept, IsNext, entry_of_run, none_above}
-use Rattle.cases.specs.Desks.{AreHeld, IsApart}
+use Rattle.cases.specs.Desks.{AreHeld, DeskState, IsApart}
 
 -- ---- runs among attempts
 
@@ -339,3 +339,11 @@ taken setup history (first ∷ tickets) (suc at) ticket held within is =
       apart = (λ same. other (sym same), rest.apart);
       held = (held.0, (apart_left first tickets at held.1.0, rest.held));
     }
+
+-- the same at a desk
+pub taken_of : (desk : DeskState) (book : BookState) (tickets left : List Flight) (at : ℕ) (ticket : Flight) → record { book = book; tickets = tickets } ≡ desk
+    → AreHeld book.setup book.history tickets → at < length desk.tickets → ticket ≡ get_or tickets at ticket → left ≡ left_at tickets at
+    → IsTaken book.setup book.history ticket left
+taken_of desk book tickets left at ticket is held within value items =
+    let here : at < length tickets = subst (λ (d : DeskState). at < length d.tickets) (sym is) within in
+    subst (IsTaken book.setup book.history ticket) (sym items) (taken book.setup book.history tickets at ticket held here value)
