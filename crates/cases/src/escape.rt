@@ -14,19 +14,29 @@ enum Escape<'t> {
 /// `\{TEXT*N}` for N times the text, in which nothing is an escape. Any other backslash is a fault of this line.
 pub fn add_unescaped(bytes: &mut Vec<u8>, text: &str, line: usize) -> Result<(), CaseError> {
     let mut rest = text.as_bytes();
-    while let [first, behind @ ..] = rest {
-        if *first == b'\\' {
-            let Some((escape, left)) = read_escape(behind) else {
-                return Err(CaseError::Line(line));
-            };
-            add_escape(bytes, escape)?;
-            rest = left;
-        } else {
-            bytes.push(*first)?;
-            rest = behind;
-        }
+    // A step reads one byte at least.
+    for _ in 0..text.len() {
+        rest = add_first(bytes, rest, line)?;
     }
     Ok(())
+}
+
+// Adds the first byte of a text, or what its escape stands for, and gives the rest.
+fn add_first<'t>(bytes: &mut Vec<u8>, text: &'t [u8], line: usize) -> Result<&'t [u8], CaseError> {
+    match text {
+        [] => Ok(text),
+        [b'\\', behind @ ..] => match read_escape(behind) {
+            Some((escape, rest)) => {
+                add_escape(bytes, escape)?;
+                Ok(rest)
+            }
+            None => Err(CaseError::Line(line)),
+        },
+        [first, behind @ ..] => {
+            bytes.push(*first)?;
+            Ok(behind)
+        }
+    }
 }
 
 // The escape behind a backslash, and what stands behind it.
@@ -44,7 +54,7 @@ fn read_escape(text: &[u8]) -> Option<(Escape<'_>, &[u8])> {
 
 // The byte of two hexadecimal digits.
 fn byte(high: u8, low: u8) -> Option<u8> {
-    Some(16 * digit(high)? + digit(low)?)
+    Some(digit(high)? << 4 | digit(low)?)
 }
 
 fn digit(digit: u8) -> Option<u8> {

@@ -1,0 +1,6 @@
+//! Sessions over a book, and the rows that they leave.
+
+mod calls;
+mod documents;
+mod limits;
+mod served;
