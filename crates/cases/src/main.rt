@@ -7,6 +7,7 @@
 #![tactic(auto)]
 
 mod case;
+mod desk;
 mod escape;
 mod file;
 mod history;
@@ -14,6 +15,8 @@ mod input;
 mod serving;
 mod session;
 mod setup;
+mod shown;
+mod step;
 
 use crate::file::run_file;
 use std::io::{self, Write};

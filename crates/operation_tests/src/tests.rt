@@ -1,0 +1,9 @@
+//! Operations over rows of several accounts, and over states that no call reaches.
+
+mod accounts;
+mod batches;
+mod books;
+mod disputes;
+mod refusals;
+mod rows;
+mod splits;
