@@ -3,7 +3,9 @@
 mod accounts;
 mod batches;
 mod books;
+mod calls;
 mod disputes;
+mod documents;
 mod refusals;
 mod rows;
 mod splits;

@@ -17,7 +17,8 @@ const KEY: &[u8] = b"sk_test_payhost";
 
 const BODY: &[u8] = b"amount=2000&currency=usd";
 
-fn opened(alloc: Global) -> Result<Book, NoMemory> {
+/// A book with ample room, and nothing entered.
+pub fn opened(alloc: Global) -> Result<Book, NoMemory> {
     let setup = Setup {
         key: Bytes::from_slice(alloc, KEY)?,
         opened: 1700000000,
@@ -41,8 +42,8 @@ fn raw(alloc: Global) -> Result<Raw, NoMemory> {
     })
 }
 
-// Gives up a run.
-fn park(book: &mut Book, ticket: Ticket)
+/// Gives up a run.
+pub fn park(book: &mut Book, ticket: Ticket)
     requires held { Holds book.old.setup book.old.history 0 ticket }
 {
     match book.apply(0, Act::Park(ticket, Why::Pending)) {

@@ -1,8 +1,12 @@
 //! Documents that no request reads: accounts, events and attempts.
 
-use super::served::{book, filled};
-use ph_base::{Bytes, NoMemory};
-use ph_book::Book;
+ghost use Rattle.ph_book.specs.Tickets.{Holds};
+
+use super::books::{opened, park};
+use ph_attempts::Ticket;
+use ph_base::{Bytes, NoMemory, Ruling};
+use ph_book::{Act, Answer, Book};
+use ph_http::Raw;
 use ph_json::text;
 use ph_rows::{Account, AccountType, Event, EventKind, Item, Metadata, Row, View};
 use ph_views::{balance_doc, item_text};
@@ -32,26 +36,79 @@ const EVENT_CHARGED: &str =
 const BALANCE_NONE: &str =
     "{\"available\":[{\"amount\":0,\"currency\":\"usd\"}],\"livemode\":false,\"object\":\"balance\",\"pending\":[{\"amount\":0,\"currency\":\"usd\"}]}";
 
-const CREATE: &[u8] =
-    b"POST /v1/payment_intents HTTP/1.1\r\nAuthorization: Bearer sk_test_payhost\r\nContent-Length: 24\r\n\r\namount=2000&currency=usd";
+// The requests of a history, each a path and a body.
+type Requests = &'static [(&'static [u8], &'static [u8])];
 
-const CLOCK_100: &[u8] =
-    b"POST /_host/clock HTTP/1.1\r\nAuthorization: Bearer sk_test_payhost\r\nContent-Length: 14\r\n\r\nnow=1700000100";
+// The intent 2 is created and canceled; the intent 7 is created.
+const CANCELED: Requests = &[
+    (b"/v1/payment_intents", b"amount=2000&currency=usd"),
+    (b"/_host/clock", b"now=1700000100"),
+    (
+        b"/v1/payment_intents/pi_0000000000000002/cancel",
+        b"cancellation_reason=duplicate",
+    ),
+    (b"/v1/payment_intents/pi_0000000000000002", b"description=x"),
+    (b"/_host/clock", b"now=1700000300"),
+    (b"/v1/payment_intents", b"amount=2000&currency=usd"),
+];
 
-const CLOCK_300: &[u8] =
-    b"POST /_host/clock HTTP/1.1\r\nAuthorization: Bearer sk_test_payhost\r\nContent-Length: 14\r\n\r\nnow=1700000300";
+// The intent 2 is created, and paid 100 seconds later.
+const PAID: Requests = &[
+    (
+        b"/v1/payment_intents",
+        b"amount=1099&currency=usd&description=Order 7&metadata[order]=7",
+    ),
+    (b"/_host/clock", b"now=1700000100"),
+    (
+        b"/v1/payment_intents/pi_0000000000000002/confirm",
+        b"payment_method=pm_card_visa",
+    ),
+];
 
-const CANCEL: &[u8] =
-    b"POST /v1/payment_intents/pi_0000000000000002/cancel HTTP/1.1\r\nAuthorization: Bearer sk_test_payhost\r\nIdempotency-Key: k\"9\r\nContent-Length: 29\r\n\r\ncancellation_reason=duplicate";
+fn request(alloc: Global, path: &[u8], body: &[u8]) -> Result<Raw, NoMemory> {
+    Ok(Raw {
+        method: Bytes::from_slice(alloc, b"POST")?,
+        path: Bytes::from_slice(alloc, path)?,
+        query: None,
+        auth: Some(Bytes::from_slice(alloc, b"sk_test_payhost")?),
+        key: None,
+        account: None,
+        body: Bytes::from_slice(alloc, body)?,
+        close: false,
+    })
+}
 
-const UPDATE: &[u8] =
-    b"POST /v1/payment_intents/pi_0000000000000002 HTTP/1.1\r\nAuthorization: Bearer sk_test_payhost\r\nContent-Length: 13\r\n\r\ndescription=x";
+// Enters an approval of a run.
+fn approve(book: &mut Book, ticket: Ticket)
+    requires held { Holds book.old.setup book.old.history 0 ticket }
+{
+    match book.apply(0, Act::Finish(ticket, Ruling::Approved)) {
+        Ok(Answer::Reply(_)) => {}
+        Err((Act::Finish(ticket, _), _)) => park(book, ticket),
+        _ => unreachable!(),
+    }
+}
 
-const ORDER: &[u8] =
-    b"POST /v1/payment_intents HTTP/1.1\r\nAuthorization: Bearer sk_test_payhost\r\nContent-Length: 62\r\n\r\namount=1099&currency=usd&description=Order 7&metadata[order]=7";
+// Enters a request, and an approval where it waits for one.
+fn enter(rt: &impl Abort, alloc: Global, book: &mut Book, path: &[u8], body: &[u8]) {
+    let raw = request(alloc, path, body).expect(rt, "a request");
+    match book.apply(0, Act::Call(raw)) {
+        Ok(Answer::Reply(_)) => {}
+        Ok(Answer::Wait(ticket)) => approve(book, ticket),
+        Ok(Answer::Done) => unreachable!(),
+        Err((Act::Call(_), _)) => assert!(rt; false),
+        Err(_) => unreachable!(),
+    }
+}
 
-const CONFIRM: &[u8] =
-    b"POST /v1/payment_intents/pi_0000000000000002/confirm HTTP/1.1\r\nAuthorization: Bearer sk_test_payhost\r\nContent-Length: 27\r\n\r\npayment_method=pm_card_visa";
+// A book in which these requests were entered.
+fn entered(rt: &impl Abort, alloc: Global, requests: Requests) -> Book {
+    let mut book = opened(alloc).expect(rt, "a book");
+    for (path, body) in requests {
+        enter(rt, alloc, &mut book, path, body);
+    }
+    book
+}
 
 // The row of a place of the book has this text.
 fn prints(rt: &impl Abort, alloc: Global, book: &Book, place: u64, expected: &str) {
@@ -90,16 +147,6 @@ fn event(sort: EventKind, object: u64, key: Option<Bytes>) -> Item {
     Item::Event(Event { sort, object, key })
 }
 
-// The intent 2 is created and canceled; the intent 7 is created.
-fn history(rt: &impl Abort, alloc: Global) -> Book {
-    filled(
-        rt,
-        alloc,
-        &[CREATE, CLOCK_100, CANCEL, UPDATE, CLOCK_300, CREATE],
-        6,
-    )
-}
-
 fn connected(alloc: Global) -> Result<Account, NoMemory> {
     let mut metadata = Metadata::new(alloc);
     metadata.set(
@@ -117,7 +164,7 @@ fn connected(alloc: Global) -> Result<Account, NoMemory> {
 #[test]
 fn accounts(rt: HostRuntime) {
     let alloc = rt.alloc();
-    let book = book(&rt, alloc, 3);
+    let book = entered(&rt, alloc, &[]);
     prints(&rt, alloc, &book, 1, PLATFORM);
     let account = connected(alloc).expect(&rt, "an account");
     prints_new(
@@ -136,7 +183,7 @@ fn accounts(rt: HostRuntime) {
 #[test]
 fn events_print_what_their_own_entry_left(rt: HostRuntime) {
     let alloc = rt.alloc();
-    let book = history(&rt, alloc);
+    let book = entered(&rt, alloc, CANCELED);
     prints(&rt, alloc, &book, 3, EVENT_CREATED);
     let key = Bytes::from_slice(alloc, b"k\"9").expect(&rt, "a key");
     let canceled = event(EventKind::IntentCanceled, 2, Some(key));
@@ -167,7 +214,7 @@ fn events_print_what_their_own_entry_left(rt: HostRuntime) {
 #[test]
 fn what_a_payment_leaves(rt: HostRuntime) {
     let alloc = rt.alloc();
-    let book = filled(&rt, alloc, &[ORDER, CLOCK_100, CONFIRM], 3);
+    let book = entered(&rt, alloc, PAID);
     prints(&rt, alloc, &book, 5, "null");
     prints(&rt, alloc, &book, 10, EVENT_CHARGED);
     has_no_transactions(&rt, alloc, &book, 6);

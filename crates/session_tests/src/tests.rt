@@ -1,5 +1,0 @@
-//! Sessions over a book, and the rows that they leave.
-
-mod calls;
-mod documents;
-mod served;
