@@ -2,8 +2,8 @@
 //!
 //! The arguments name the files, in the order in which they are run: those in `histories/` hold entries of a book
 //! (`history.rt`), those in `books/` sessions over one book (`serving.rt`), the others bytes that are sent to the top
-//! call (`session.rt`). All have the form that `case.rt` describes. A file that can't be read, and a line that isn't understood, end the program with an error and
-//! status 1.
+//! call (`session.rt`). All have the form that `case.rt` describes. A file that can't be read, and a line that isn't
+//! understood, end the program with an error and status 1.
 #![tactic(auto)]
 
 mod case;
