@@ -20,8 +20,6 @@ mod payment_methods;
 mod refunds;
 mod rows;
 mod scans;
-#[cfg(test)]
-mod tests;
 mod transactions;
 mod views;
 mod weights;

@@ -1,0 +1,66 @@
+//! Splits of charges that stand in the view alone, and a ledger.
+
+use super::rows::{OPENED, batch_after, paid};
+use ph_base::NoMemory;
+use ph_charges::split;
+use ph_ledger::Ledger;
+use ph_money::{Amount, Currency};
+use ph_rows::{ListView, Row, Txn, TxnSource, TxnType, View};
+use std::alloc::Global;
+use std::process::Abort;
+use std::test::Fail;
+
+// The rows that a split of 500 of a charge adds.
+fn split_rows(alloc: Global, view: &ListView, charge: u64) -> Result<Vec<Row>, NoMemory> {
+    let mut batch = batch_after(alloc, view);
+    split(view, charge, Amount::new(500), &mut batch)?;
+    batch.into_rows(alloc, None)
+}
+
+fn is_charged(rt: &impl Abort, txn: &Txn) {
+    assert_eq!(rt;
+        (txn.sort, txn.source),
+        (TxnType::Charge, TxnSource::Charge(6))
+    );
+    assert_eq!(rt; (txn.amount.units(), txn.fee.units()), (500, 45));
+    assert_eq!(rt;
+        (txn.currency, txn.available_on),
+        (Currency::Usd, OPENED + 172800)
+    );
+}
+
+// A split reads a charge that isn't in the batch in the view; where there is no such charge nothing is added.
+#[test]
+fn splits(rt: HostRuntime) -> Result<(), Fail> {
+    let view = paid(rt.alloc(), 1, "pm_card_visa", "manual")?;
+    assert_eq!(rt; split_rows(rt.alloc(), &view, 5)?.len(), 0);
+    let rows = split_rows(rt.alloc(), &view, 6)?;
+    assert_eq!(rt; rows.len(), 1);
+    is_charged(&rt, rows[0].item.txn().ok_or("no transaction")?);
+    Ok(())
+}
+
+// The transactions of a view.
+fn posted(alloc: Global, view: &ListView) -> Result<Ledger, NoMemory> {
+    let mut ledger = Ledger::new(alloc);
+    ledger.advance(OPENED);
+    for row in view.rows() {
+        if row.item.txn().is_some() {
+            ledger.post(row)?;
+        }
+    }
+    Ok(ledger)
+}
+
+// A ledger that makes its own room as transactions are posted.
+#[test]
+fn a_ledger(rt: HostRuntime) -> Result<(), Fail> {
+    let view = paid(rt.alloc(), 1, "pm_card_visa", "automatic")?;
+    let mut ledger = posted(rt.alloc(), &view)?;
+    assert_eq!(rt; ledger.available(1, Currency::Usd), 0);
+    assert_eq!(rt; ledger.pending(1, Currency::Usd), 1912);
+    ledger.advance(OPENED + 172800);
+    assert_eq!(rt; ledger.available(1, Currency::Usd), 1912);
+    assert_eq!(rt; ledger.pending(1, Currency::Usd), 0);
+    Ok(())
+}
