@@ -14,14 +14,14 @@ PLAIN = {b"r": b"\r", b"n": b"\n", b"t": b"\t", b"\\": b"\\"}
 
 
 def plain(text):
-    """The bytes of a text with escapes."""
+    """The bytes of a text with escapes. In a text that is repeated nothing is an escape."""
     def replaced(found):
         letter, code, repeated, times = found.groups()
         if letter:
             return PLAIN[letter]
         if code:
             return bytes([int(code, 16)])
-        return plain(repeated) * int(times)
+        return repeated * int(times)
     return ESCAPE.sub(replaced, text)
 
 

@@ -24,13 +24,14 @@ class Steps:
         return [f"-> {answer}".encode()] + [f"   {row}".encode() for row in added]
 
     def answer(self, line, plain):
+        headers = {}
+        for word, field in ((b"as ", "auth"), (b"account ", "account")):
+            if line.startswith(word):
+                value, line = line[len(word) :].split(b": ", 1)
+                headers[field] = None if word == b"as " and value == b"-" else plain(value)
         words = line.split()
-        if words[0] == b"as":
-            auth, rest = line[len("as ") :].split(b": ", 1)
-            return self.call(rest, plain, auth=None if auth == b"-" else plain(auth))
-        if words[0] == b"account":
-            account, rest = line[len("account ") :].split(b": ", 1)
-            return self.call(rest, plain, account=plain(account))
+        if len(words) > 1 and words[1].startswith(b"/"):
+            return self.call(words, plain, headers)
         word, given = words[0].decode(), [word.decode() for word in words[1:]]
         if word in RULINGS:
             return said(self.book.finish(self.ticket(given), word))
@@ -43,13 +44,13 @@ class Steps:
         if word == "balance":
             available, pending = money.balance(self.book.rows, int(given[0]), given[1], self.book.time)
             return f"available {available} pending {pending}"
-        return self.call(line, plain)
+        raise ValueError(f"not understood: {line!r}")
 
     def ticket(self, given):
         return int(given[0]) if given else self.book.live[0]
 
-    def call(self, line, plain, **headers):
-        method, target, *body = line.split()
+    def call(self, words, plain, headers):
+        method, target, *body = words
         path, mark, query = target.partition(b"?")
         body = plain(body[0]) if body and body != [b"-"] else b""
         fields = {"auth": self.book.key, "account": None, **headers}
