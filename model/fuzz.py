@@ -1,0 +1,222 @@
+"""Random sessions as case files, for a comparison of the program with the model.
+
+    python3 model/fuzz.py SEED COUNT > FILE
+
+Each case is a session of a few requests. What a reply of the model showed, later requests name: the model only guides
+the choice, and the same seed gives the same cases. A case has at most 12 requests, a file at most 1,000 cases.
+"""
+
+import random
+import re
+import sys
+
+import cases
+
+MOST_CASES = 1000
+MOST_REQUESTS = 12
+
+METHODS = ["pm_card_visa", "pm_card_visa", "pm_card_visa", "pm_card_chargeDeclined", "pm_card_visa_chargeDeclined",
+           "pm_card_chargeDeclinedInsufficientFunds", "pm_card_authenticationRequired", "pm_card_createDispute",
+           "pm_card_createDispute", "pm_card_bypassPending", "pm_payhost_slow_2", "pm_payhost_slow_9", "pm_payhost_lost",
+           "pm_payhost_slow_0", "pm_card_", ""]
+AMOUNTS = ["2000", "2000", "1500", "50", "49", "1055", "10000", "1", "0", "007", "99999999", "100000000", "-5", "5x", "",
+           "18446744073709551616"]
+CURRENCIES = ["usd", "usd", "USD", "eur", "gbp", "jpy", "chf", ""]
+TEXTS = ["", "a", "a b", "%00%01%7f", "%22%5c/", "%ff", "%E2%82%AC", "%F0%9F%98%80", "a%2", "%zz", "+", "x=y"]
+EVIDENCE = ["winning_evidence", "losing_evidence", "none", "", "%ff"]
+REASONS = ["duplicate", "fraudulent", "requested_by_customer", "abandoned", "Duplicate", ""]
+TRUTHS = ["true", "true", "true", "True", "false", "FALSE", "yes"]
+MOMENTS = ["1700000000", "1700086400", "1700172799", "1700172800", "1700400000", "253402300799", "253402300800", "x", "0"]
+METADATA = ["metadata[a]=1", "metadata[b]=2", "metadata[a]=", "metadata=", "metadata[]=x", "metadata[a][b]=1",
+            "metadata[b!]=3", "metadata", "metadata[%E2%82%AC]=4"]
+STRANGE = ["foo=1", "expand[]=latest_charge", "expand=x", "submit=true", "return_url[a][b]=1", "off_session=x", "a[=1",
+           "[a]=1", "a[b][c][d][e][f]=1", "amount=2000", "amount[]=1", "&&", "=", "currency[a]=usd", "a]=1", "b[]=1&b[0]=2"]
+PREFIXES = ["pi_", "pi_", "ch_", "ch_", "dp_", "re_", "txn_", "evt_", "acct_", "PI_"]
+
+
+class Session:
+    """One case in the making, and the ids that its replies showed so far."""
+
+    def __init__(self, chance):
+        self.chance = chance
+        self.seen = []
+
+    def one(self, values):
+        return self.chance.choice(values)
+
+    def likely(self, share):
+        return self.chance.random() < share
+
+    def look(self, fields, lines):
+        """Notes the ids that the replies so far show. A dispute stands three places behind its charge, mostly."""
+        written = cases.run_session(b"", [field.encode() for field in fields], [line.encode() for line in lines])
+        self.seen = re.findall(r'"([a-z]+_[0-9]{16})"', written.decode("utf-8", "replace"))
+        self.seen += [f"dp_{int(text[3:]) + 3:016}" for text in self.seen if text.startswith("ch_")]
+
+    def identity(self, prefix):
+        if self.likely(0.03):
+            prefix = self.one(PREFIXES)
+        known = sorted({text for text in self.seen if text.startswith(prefix)})
+        if known and self.likely(0.95):
+            return self.one(known)
+        return f"{prefix}{self.chance.randrange(40):016}" if self.likely(0.9) else f"{prefix}2"
+
+    def form(self, pairs):
+        """The pairs that are taken by their shares, now and then with a strange one, or in another order."""
+        taken = [pair for share, pair in pairs if self.likely(share)]
+        if self.likely(0.06):
+            taken.append(self.one(STRANGE))
+        if self.likely(0.1):
+            self.chance.shuffle(taken)
+        return "&".join(taken)
+
+    def payment(self):
+        """A create that pays, or nearly."""
+        return "POST", "/v1/payment_intents", self.form([
+            (1, f"amount={self.one(['2000', '1500', '50', '1055', '10000', '99999999'])}"),
+            (1, f"currency={self.one(['usd', 'usd', 'eur', 'gbp', 'jpy'])}"),
+            (1, f"payment_method={self.one(METHODS[:-3])}"),
+            (0.9, "confirm=true"),
+            (0.4, f"capture_method={self.one(['manual', 'manual', 'automatic', 'automatic_async'])}"),
+            (0.1, f"description={self.one(TEXTS)}"),
+            (0.2, f"metadata[{self.one('abc')}]={self.one(TEXTS)}"),
+            (0.1, f"transfer_group={self.one(TEXTS)}"),
+        ])
+
+    def create(self):
+        return "POST", "/v1/payment_intents", self.form([
+            (0.98, f"amount={self.one(AMOUNTS[:6] if self.likely(0.8) else AMOUNTS)}"),
+            (0.98, f"currency={self.one(CURRENCIES[:4] if self.likely(0.9) else CURRENCIES)}"),
+            (0.8, f"payment_method={self.one(METHODS[:-3] if self.likely(0.9) else METHODS)}"),
+            (0.7, f"confirm={self.one(TRUTHS)}"),
+            (0.4, f"capture_method={self.one(['manual', 'manual', 'automatic', 'automatic_async', 'x'])}"),
+            (0.1, f"description={self.one(TEXTS)}"),
+            (0.2, self.one(METADATA)),
+            (0.2, self.one(METADATA)),
+            (0.1, f"transfer_group={self.one(TEXTS)}"),
+            (0.05, f"automatic_payment_methods[enabled]={self.one(TRUTHS)}"),
+        ])
+
+    def update(self):
+        return "POST", f"/v1/payment_intents/{self.identity('pi_')}", self.form([
+            (0.3, f"amount={self.one(AMOUNTS)}"),
+            (0.2, f"currency={self.one(CURRENCIES)}"),
+            (0.3, f"payment_method={self.one(METHODS)}"),
+            (0.4, f"description={self.one(TEXTS)}"),
+            (0.5, self.one(METADATA)),
+            (0.3, self.one(METADATA)),
+            (0.2, f"transfer_group={self.one(TEXTS)}"),
+        ])
+
+    def confirm(self):
+        return "POST", f"/v1/payment_intents/{self.identity('pi_')}/confirm", self.form([
+            (0.7, f"payment_method={self.one(METHODS)}"),
+        ])
+
+    def capture(self):
+        return "POST", f"/v1/payment_intents/{self.identity('pi_')}/capture", self.form([
+            (0.6, f"amount_to_capture={self.one(AMOUNTS)}"),
+        ])
+
+    def cancel(self):
+        return "POST", f"/v1/payment_intents/{self.identity('pi_')}/cancel", self.form([
+            (0.5, f"cancellation_reason={self.one(REASONS)}"),
+        ])
+
+    def authenticate(self):
+        return "POST", f"/_host/payment_intents/{self.identity('pi_')}/authenticate", self.form([
+            (0.95, f"outcome={self.one(['succeeded', 'succeeded', 'failed', 'Failed'])}"),
+        ])
+
+    def refund(self):
+        return "POST", "/v1/refunds", self.form([
+            (0.7, f"charge={self.identity('ch_')}"),
+            (0.3, f"payment_intent={self.identity('pi_')}"),
+            (0.6, f"amount={self.one(['500', '500', '1500', '1', '2000', '0'] if self.likely(0.9) else AMOUNTS)}"),
+            (0.3, f"reason={self.one(REASONS)}"),
+            (0.2, self.one(METADATA)),
+        ])
+
+    def evidence(self):
+        return "POST", f"/v1/disputes/{self.identity('dp_')}", self.form([
+            (0.95, f"evidence[uncategorized_text]={self.one(EVIDENCE)}"),
+            (0.1, "submit=true"),
+        ])
+
+    def close(self):
+        return "POST", f"/v1/disputes/{self.identity('dp_')}/close", self.form([])
+
+    def clock(self):
+        return "POST", "/_host/clock", self.form([(0.95, f"now={self.one(MOMENTS)}")])
+
+    def get(self):
+        kind, prefix = self.one([("payment_intents", "pi_"), ("charges", "ch_"), ("charges", "ch_"), ("refunds", "re_"),
+                                 ("disputes", "dp_"), ("balance_transactions", "txn_")])
+        return "GET", f"/v1/{kind}/{self.identity(prefix)}", self.form([])
+
+    def balance(self):
+        return "GET", "/v1/balance", self.form([])
+
+    def strange(self):
+        target = self.one(["/", "/v1/charges", "/v1/payment_intents/", "/v1/refunds/x/y", "/V1/balance", "/v1/balance/",
+                           "http://localhost/v1/balance", "/v1/payment_intents//confirm", "?a=1", "*"])
+        return self.one(["GET", "GET", "POST", "POST", "DELETE", "PUT"]), target, ""
+
+    def request(self):
+        """The lines of a request. Calls on objects of a kind come once one was seen, mostly."""
+        calls = [(self.payment, "", 4), (self.create, "", 1), (self.balance, "", 1), (self.clock, "", 1),
+                 (self.get, "pi_", 4), (self.update, "pi_", 2), (self.confirm, "pi_", 3), (self.capture, "pi_", 3),
+                 (self.cancel, "pi_", 1), (self.authenticate, "pi_", 3), (self.refund, "ch_", 5),
+                 (self.evidence, "dp_", 2), (self.close, "dp_", 1)]
+        possible = [call for call, prefix, share in calls for _ in range(share)
+                    if any(text.startswith(prefix) for text in self.seen) or self.likely(0.05) or prefix == ""]
+        method, target, form = self.one(possible)() if self.likely(0.98) else self.strange()
+        if form and self.likely(0.1):
+            target, form = f"{target}?{form}", ""
+        lines = [f"> {method} {target}"]
+        headers = ["key"] if self.likely(0.98) else [self.one(["", "Authorization: Bearer x", "Authorization: key"])]
+        headers += self.header()
+        return lines + [line for line in headers if line] + ["", form]
+
+    def header(self):
+        if self.likely(0.85):
+            return []
+        if self.likely(0.9):
+            return [self.one(["Expect: 100-continue", "Idempotency-Key: k", "Stripe-Account: acct_0000000000000001",
+                              "Stripe-Account: x", "Connection: close x", "Content-Encoding: identity", "A:",
+                              "Content-Length: ?", "Host: localhost", "User-Agent: fuzz/1.0"])]
+        return [self.one(["connection: keep-alive, CLOSE", "Content-Encoding: br", "Content-Length: 5", "A : b",
+                          "Content-Length: x", "Transfer-Encoding: chunked"])]
+
+
+def case(chance, number):
+    """A case: its first line and its requests."""
+    session = Session(chance)
+    fields = [f"stdio --patience {chance.randrange(12)}"]
+    if chance.random() < 0.2:
+        words = ["wait", "approve", "approve", "decline", "funds", "challenge", "fail"]
+        fields.append("cues " + " ".join(chance.choice(words) for _ in range(chance.randrange(1, 8))))
+    if chance.random() < 0.2:
+        fields.append(f"reads 4096 {chance.randrange(1, 50)}")
+    if chance.random() < 0.05:
+        fields.append(f"failing reads {chance.randrange(3)}")
+        fields = [field for field in fields if not field.startswith("reads")]
+    if chance.random() < 0.05:
+        fields.append(f"failing writes {chance.randrange(8)}")
+    lines = []
+    for _ in range(chance.randrange(1, MOST_REQUESTS + 1)):
+        lines += session.request()
+        session.look(fields, lines)
+    return [f"== {number} | " + " | ".join(fields)] + lines + [""]
+
+
+def main(seed, count):
+    chance = random.Random(seed)
+    print(f"Random sessions of the seed {seed}.")
+    print()
+    for number in range(min(count, MOST_CASES)):
+        print("\n".join(case(chance, number)))
+
+
+if __name__ == "__main__":
+    main(int(sys.argv[1]), int(sys.argv[2]))
