@@ -14,28 +14,24 @@ MOST_WEIGHT = 536870912
 PLATFORM_ID = b"acct_0000000000000001"
 
 
-def get_txn(batch, identity, _given):
-    return refunds.shown(batch, identity, "txn")
-
-
 # call: what carries it out. Each answers the document of the reply, or that it waits for the acquirer, or refuses
 # before it adds a row.
 CALLS = {
     "create_intent": intents.create,
-    "get_intent": intents.get,
+    "get_intent": views.retrieve("intent"),
     "update_intent": intents.update,
     "confirm_intent": intents.confirm,
     "capture_intent": intents.capture,
     "cancel_intent": intents.cancel,
     "authenticate": intents.authenticate,
-    "get_charge": refunds.get_charge,
+    "get_charge": views.retrieve("charge"),
     "create_refund": refunds.create,
-    "get_refund": refunds.get,
-    "get_dispute": disputes.get,
+    "get_refund": views.retrieve("refund"),
+    "get_dispute": views.retrieve("dispute"),
     "send_evidence": disputes.send_evidence,
     "close_dispute": disputes.close,
     "get_balance": views.balance,
-    "get_txn": get_txn,
+    "get_txn": views.retrieve("txn"),
 }
 
 FULL = "full"
@@ -132,6 +128,10 @@ class Book:
         self.entries += 1
         self.time = max(self.time, now)
         return None
+
+    def order(self, attempt):
+        """What the acquirer is asked for an attempt."""
+        return self.rows[attempt - 1].item["order"]
 
     def batch(self, account):
         return book_rows.Batch(self.rows, self.time, account, self.entries)

@@ -142,9 +142,10 @@ def run_history(name, fields, lines):
 
 
 def is_history(path, cases):
-    """Histories stand in a folder of that name; elsewhere a session is known by its requests."""
-    if "histories" in path or "sessions" in path:
-        return "histories" in path.split("/")[-2:-1]
+    """The nearest folder that is named so says it; elsewhere a session is known by its requests."""
+    for folder in reversed(path.split("/")[:-1]):
+        if folder in ("sessions", "histories"):
+            return folder == "histories"
     return not any(begins_request(line) for _, _, lines in cases for line in lines)
 
 

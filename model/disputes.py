@@ -1,8 +1,6 @@
 """Disputes: a charge paid by pm_card_createDispute is disputed in the moment of its capture."""
 
 import money
-import refunds
-import rows as book_rows
 import views
 from errors import Refusal
 
@@ -33,15 +31,9 @@ def move(batch, dispute, amount, fee):
     }, batch.account_of(dispute))
 
 
-def get(batch, identity, _given):
-    return refunds.shown(batch, identity, "dispute")
-
-
 def open_one(batch, identity):
     """The dispute that a path names, where it isn't closed."""
-    dispute = book_rows.named(batch.rows, identity, "dispute", batch.account)
-    if dispute is None:
-        raise Refusal("no_object")
+    dispute = batch.owned(identity, "dispute")
     if batch.item(dispute)["status"] in CLOSED:
         raise Refusal("dispute_closed")
     return dispute

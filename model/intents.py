@@ -4,7 +4,6 @@ import acquirer
 import disputes
 import money
 import parameters
-import rows as book_rows
 import views
 from errors import Refusal
 
@@ -20,16 +19,9 @@ ALLOWED = {
 }
 
 
-def found(batch, identity):
-    number = book_rows.named(batch.rows, identity, "intent", batch.account)
-    if number is None:
-        raise Refusal("no_object")
-    return number
-
-
 def allowed(batch, identity, call):
     """The intent that a path names, where its status allows the call."""
-    number = found(batch, identity)
+    number = batch.owned(identity, "intent")
     if call not in ALLOWED[batch.item(number)["status"]]:
         raise Refusal("wrong_status")
     return number
@@ -67,33 +59,12 @@ def create(batch, _identity, given):
         "latest_charge": None,
         "description": given.get("description"),
         "transfer_group": given.get("transfer_group"),
-        "metadata": first_metadata(given),
+        "metadata": parameters.first_metadata(given),
     })
     batch.announce("payment_intent.created", intent)
     if confirm:
         return begin(batch, intent, acquirer.method_of(method))
     return views.document(batch, intent)
-
-
-def first_metadata(given):
-    """The metadata of a new object: an empty text is a text."""
-    pairs = given.get("metadata", parameters.CLEAR)
-    return {} if pairs == parameters.CLEAR else dict(sorted(pairs.items()))
-
-
-def merged_metadata(old, given):
-    """The metadata after an update: an empty text takes its key away."""
-    if "metadata" not in given:
-        return old
-    if given["metadata"] == parameters.CLEAR:
-        return {}
-    merged = {**old, **given["metadata"]}
-    kept = {key: text for key, text in merged.items() if given["metadata"].get(key) != ""}
-    return dict(sorted(kept.items()))
-
-
-def get(batch, identity, _given):
-    return views.document(batch, found(batch, identity))
 
 
 def update(batch, identity, given):
@@ -102,7 +73,7 @@ def update(batch, identity, given):
     old = batch.item(intent)
     new = {name: given.get(name, old[name])
            for name in ("amount", "currency", "payment_method", "description", "transfer_group")}
-    new["metadata"] = merged_metadata(old["metadata"], given)
+    new["metadata"] = parameters.merged_metadata(old["metadata"], given)
     if "payment_method" in given:
         new["status"] = "requires_confirmation"
     if new["amount"] < money.minimum(new["currency"]):
@@ -140,28 +111,14 @@ def cancel(batch, identity, given):
     return views.document(batch, intent)
 
 
-def capturable(rows, item):
-    """What a capture may still take: what the latest charge authorised, while it waits for its capture."""
-    if item["status"] != "requires_capture":
-        return 0
-    return book_rows.latest(rows, item["latest_charge"]).item["amount"]
-
-
-def received(rows, intent):
-    """What was captured of all charges of an intent."""
-    charges = {row.object for row in rows if row.kind == "charge" and row.item["intent"] == intent}
-    return sum(money.captured(rows, charge) for charge in charges)
-
-
 def capture(batch, identity, given):
     """Captures what was authorised, or a part of it; the rest is let go."""
     intent = allowed(batch, identity, "capture")
-    item = batch.item(intent)
-    most = capturable(batch.rows, item)
+    most = money.capturable(batch.rows, intent)
     amount = given.get("amount_to_capture", most)
     if amount == 0 or amount > most:
         raise Refusal("invalid", "amount_to_capture")
-    charge = item["latest_charge"]
+    charge = batch.item(intent)["latest_charge"]
     batch.change(charge)
     money.capture(batch, charge, amount)
     batch.change(intent, status="succeeded")

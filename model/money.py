@@ -3,6 +3,8 @@
 Every amount that changes is a sum over the rows.
 """
 
+import rows as book_rows
+
 MOST = 99999999
 TWO_DAYS = 172800
 DISPUTE_FEE = 1500
@@ -32,21 +34,37 @@ def txns(rows):
     return [row for row in rows if row.kind == "txn"]
 
 
+def captures(rows, charge):
+    """The transactions that a charge was captured by: one, or none."""
+    return [row for row in txns(rows) if row.item["type"] == "charge" and row.item["source"] == charge]
+
+
 def capture_of(rows, charge):
-    """The transaction that a charge was captured by, or None."""
-    made = [row for row in txns(rows) if row.item["type"] == "charge" and row.item["source"] == charge]
-    return made[0] if made else None
+    return next(iter(captures(rows, charge)), None)
 
 
 def captured(rows, charge):
     """What was captured of a charge."""
-    made = [row for row in txns(rows) if row.item["type"] == "charge" and row.item["source"] == charge]
-    return sum(row.item["amount"] for row in made)
+    return sum(row.item["amount"] for row in captures(rows, charge))
 
 
 def refunded(rows, charge):
     """What the refunds of a charge gave back."""
     return sum(row.item["amount"] for row in rows if row.kind == "refund" and row.item["charge"] == charge)
+
+
+def capturable(rows, intent):
+    """What a capture of an intent may still take: what its latest charge authorised, while that is held."""
+    item = book_rows.latest(rows, intent).item
+    if item["status"] != "requires_capture":
+        return 0
+    return book_rows.latest(rows, item["latest_charge"]).item["amount"]
+
+
+def received(rows, intent):
+    """What was captured of all charges of an intent."""
+    charges = {row.object for row in rows if row.kind == "charge" and row.item["intent"] == intent}
+    return sum(captured(rows, charge) for charge in charges)
 
 
 def net(txn):
@@ -68,10 +86,7 @@ def currencies_of(rows, account):
 
 
 def capture(batch, charge, amount):
-    """Captures so much of a charge: its new version and the transaction that gives it to the balance.
-
-    The charge itself may be new in the same batch: then its version stands already.
-    """
+    """Adds the transaction that gives so much of a charge to the balance."""
     item = batch.item(charge)
     at_once = item["payment_method"] == "pm_card_bypassPending"
     batch.add("txn", {

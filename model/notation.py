@@ -3,7 +3,6 @@ field says something."""
 
 import re
 
-import intents
 import money
 import rows as book_rows
 
@@ -37,8 +36,8 @@ def account(_rows, _number, item):
 def intent(rows, number, item):
     return (
         f"{item['status']} {item['amount']} {item['currency']} {item['capture_method']}"
-        + amount("capturable", intents.capturable(rows, item))
-        + amount("received", intents.received(rows, number))
+        + amount("capturable", money.capturable(rows, number))
+        + amount("received", money.received(rows, number))
         + named("method", item["payment_method"])
         + named("reason", item["reason"])
         + named("error", {"declined": "generic"}.get(item["error"], item["error"]))

@@ -110,6 +110,23 @@ def metadata(name, node):
     return pairs
 
 
+def first_metadata(given):
+    """The metadata of a new object, in byte order of the names: an empty text is a text."""
+    pairs = given.get("metadata", CLEAR)
+    return {} if pairs == CLEAR else dict(sorted(pairs.items()))
+
+
+def merged_metadata(old, given):
+    """The metadata after an update: an empty text takes its key away."""
+    if "metadata" not in given:
+        return old
+    if given["metadata"] == CLEAR:
+        return {}
+    merged = {**old, **given["metadata"]}
+    kept = {key: value for key, value in merged.items() if given["metadata"].get(key) != ""}
+    return dict(sorted(kept.items()))
+
+
 # ---- Checks that stand behind all parameters of a call.
 
 

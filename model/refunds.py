@@ -1,26 +1,10 @@
-"""Charges and refunds: a refund takes an amount of a captured charge from the balance."""
+"""Refunds: a refund takes an amount of a captured charge from the balance."""
 
-import intents
 import money
+import parameters
 import rows as book_rows
 import views
 from errors import Refusal
-
-
-def get_charge(batch, identity, _given):
-    return shown(batch, identity, "charge")
-
-
-def get(batch, identity, _given):
-    return shown(batch, identity, "refund")
-
-
-def shown(batch, identity, kind):
-    """The document of the account's object that a path names."""
-    number = book_rows.named(batch.rows, identity, kind, batch.account)
-    if number is None:
-        raise Refusal("no_object")
-    return views.document(batch, number)
 
 
 def charge_named(batch, given):
@@ -56,7 +40,7 @@ def create(batch, _identity, given):
         "amount": amount,
         "charge": charge,
         "reason": given.get("reason"),
-        "metadata": intents.first_metadata(given),
+        "metadata": parameters.first_metadata(given),
     }, account)
     batch.add("txn", {
         "type": "refund",

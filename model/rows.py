@@ -2,6 +2,8 @@
 
 from collections import namedtuple
 
+from errors import Refusal
+
 Row = namedtuple("Row", "place object time account kind item")
 
 PLATFORM = 1
@@ -56,6 +58,13 @@ class Batch:
 
     def account_of(self, number):
         return latest(self.rows, number).account
+
+    def owned(self, identity, kind):
+        """The account's object of this kind that a path names."""
+        number = named(self.rows, identity, kind, self.account)
+        if number is None:
+            raise Refusal("no_object")
+        return number
 
     def add(self, kind, item, account=None):
         """A new object; answers its number."""

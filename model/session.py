@@ -102,15 +102,10 @@ def answer(book, request, link, patience):
     reply = book.call(request)
     if not isinstance(reply, Waits):
         return reply
-    order = book_order(book, reply.attempt)
-    ruling = acquirer.ruling(link, order, patience)
+    ruling = acquirer.ruling(link, book.order(reply.attempt), patience)
     if ruling in ("pending", "failed"):
         return book.park(reply.attempt, ruling)
     return book.finish(reply.attempt, ruling)
-
-
-def book_order(book, attempt):
-    return book.rows[attempt - 1].item["order"]
 
 
 def written(reply, close):

@@ -3,7 +3,6 @@
 import json
 
 import errors
-import intents
 import money
 import rows as book_rows
 
@@ -28,12 +27,19 @@ def common(rows, number):
     return {"id": printed(rows, number), "created": book_rows.created(rows, number)}
 
 
+def retrieve(kind):
+    """The call that shows the account's object of a kind."""
+    def call(batch, identity, _given):
+        return document(batch, batch.owned(identity, kind))
+    return call
+
+
 def intent(rows, number, item, _time):
     return {
         **common(rows, number),
         "amount": item["amount"],
-        "amount_capturable": intents.capturable(rows, item),
-        "amount_received": intents.received(rows, number),
+        "amount_capturable": money.capturable(rows, number),
+        "amount_received": money.received(rows, number),
         "application_fee_amount": None,
         "cancellation_reason": item["reason"],
         "capture_method": item["capture_method"],
