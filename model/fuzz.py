@@ -2,6 +2,8 @@
 
     python3 model/fuzz.py sessions SEED COUNT > FILE      requests of all calls
     python3 model/fuzz.py heads SEED COUNT > FILE         sessions of bytes that are heads, or nearly
+    python3 model/fuzz.py forms SEED COUNT > FILE         creates whose forms have names of all kinds
+    python3 model/fuzz.py words SEED COUNT > FILE         words of the command line
     python3 model/fuzz.py histories SEED COUNT > FILE     steps of histories in little room
 
 What a reply of the model showed, later requests name: the model only guides the choice, and the same seed gives the
@@ -253,6 +255,58 @@ def head_case(chance):
     return fields, lines
 
 
+# Pieces of names, most of which lie at or below a few beginnings, so that they meet.
+BASES = ["metadata"] * 12 + ["expand"] * 6 + ["description", "transfer_group", "return_url", "off_session", "foo", "b", ""]
+KEYS = ["[a]", "[b]", "[]", "[]", "[0]", "[1]", "[01]", "[b!]", "[%E2%82%AC]", "%5Bc%5D", "[%20]", "[\\{k*40}]",
+        "[\\{k*41}]"]
+FAULTS = ["[", "]", "[a", "a]", "[a]b", "[[a]]", "%5b"]
+VALUES = TEXTS + ["1", "1", "1", "\\{v*500}", "\\{v*501}", "true"]
+
+
+def name(chance):
+    """A name with a few keys, now and then with a fault."""
+    keys = chance.choice([0, 1, 1, 1, 1, 1, 1, 2, 2, 3, 4, 5])
+    text = chance.choice(BASES) + "".join(chance.choice(KEYS) for _ in range(keys))
+    return text + chance.choice(FAULTS) if chance.random() < 0.03 else text
+
+
+def form_case(chance):
+    """The fields and the lines of a session of creates whose forms have many names."""
+    lines = []
+    for _ in range(4):
+        pairs = [f"{name(chance)}{chance.choice(['=', '=', '=', ''])}{chance.choice(VALUES)}"
+                 for _ in range(chance.choice([1, 2, 3, 4, 5, 8]))]
+        known = ["amount=2000", "currency=usd"] + [chance.choice(METADATA)]
+        if chance.random() < 0.5:
+            pairs = [f"metadata[{chance.choice('abcdef')}]={chance.choice(VALUES)}" for _ in range(2)]
+        chance.shuffle(pairs)
+        at = chance.randrange(len(pairs) + 1)
+        query, body = "&".join(pairs[:at]), "&".join(known[: chance.choice([2, 2, 2, 3])] + pairs[at:])
+        lines += ["> POST /v1/payment_intents" + (f"?{query.replace(' ', '+')}" if query else ""), "key", "", body]
+    return ["stdio"], lines
+
+
+OPTIONS = ["--key", "--clock", "--patience", "--history", "--key=sk_test_1", "stdio", ""]
+OPTION_VALUES = ["sk_test_payhost", "sk_test_1", "sk_test_", "sk_live_1", "SK_TEST_1", "0", "1", "0001", "1700000001",
+                 "253402300799", "253402300800", "1000000", "1000001", "18446744073709551616", "-1", "+1", "1x",
+                 "sk_test_\\{~*247}", "sk_test_\\{~*248}", "sk_test_\\x20a", "sk_test_\\x7f", "sk_test_\\xc3"]
+FITTING = {"--key": OPTION_VALUES[:2], "--clock": OPTION_VALUES[5:10], "--patience": OPTION_VALUES[5:8]}
+
+
+def word_case(chance):
+    """The fields and the lines of a session under random words."""
+    words = [chance.choice(["stdio"] * 12 + ["serve", "Stdio", "--key"])]
+    for _ in range(chance.choice([0, 1, 1, 2, 2, 3])):
+        option = chance.choice(OPTIONS[:3] * 4 + OPTIONS)
+        fits = chance.random() < 0.7 and option in FITTING
+        words += [option, chance.choice(FITTING[option] if fits else OPTION_VALUES)]
+    if chance.random() < 0.1:
+        words.pop()
+    lines = ["> POST /v1/payment_intents", "Authorization: Bearer " + chance.choice(OPTION_VALUES[:2]), "",
+             "amount=2000&currency=usd"]
+    return [" ".join(words)], lines
+
+
 def history_case(chance):
     """The fields and the lines of a history. Runs stay open for a while, and room is little."""
     session = Session(chance)
@@ -289,7 +343,8 @@ def printed(run, fields, lines):
     return run(b"", [field.encode() for field in fields], [line.encode() for line in lines])
 
 
-KINDS = {"sessions": session_case, "heads": head_case, "histories": history_case}
+KINDS = {"sessions": session_case, "heads": head_case, "forms": form_case, "words": word_case,
+         "histories": history_case}
 
 
 def main(kind, seed, count):
