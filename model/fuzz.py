@@ -210,8 +210,8 @@ def session_case(chance):
         fields.append(f"failing reads {chance.randrange(3)}")
     elif chance.random() < 0.2:
         fields.append(f"reads 4096 {chance.randrange(1, 50)}")
-    if chance.random() < 0.05:
-        fields.append(f"failing writes {chance.randrange(8)}")
+    if chance.random() < 0.1:
+        fields += [f"writes {chance.choice([1, 7, 100, 500])}", f"failing writes {chance.randrange(40)}"]
     lines = []
     for _ in range(chance.randrange(1, MOST_REQUESTS + 1)):
         lines += session.request()
