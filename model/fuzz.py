@@ -27,7 +27,8 @@ METHODS = ["pm_card_visa", "pm_card_visa", "pm_card_visa", "pm_card_chargeDeclin
 AMOUNTS = ["2000", "2000", "1500", "50", "49", "1055", "10000", "1", "0", "007", "99999999", "100000000", "-5",
            "5x", "", "18446744073709551616"]
 CURRENCIES = ["usd", "usd", "USD", "eur", "gbp", "jpy", "chf", ""]
-TEXTS = ["", "a", "a b", "%00%01%7f", "%22%5c/", "%ff", "%E2%82%AC", "%F0%9F%98%80", "a%2", "%zz", "+", "x=y"]
+TEXTS = ["", "a", "a b", "%00%01%7f", "%22%5c/", "%ff", "%E2%82%AC", "%F0%9F%98%80", "a%2", "%zz", "+", "x=y",
+         "%F0%9F%98", "%ED%A0%80", "%C0%80%F5", "%E2%28%A1x", "\\xe2\\x82", "\\xc3\\xa9"]
 EVIDENCE = ["winning_evidence", "losing_evidence", "none", "", "%ff"]
 REASONS = ["duplicate", "fraudulent", "requested_by_customer", "abandoned", "Duplicate", ""]
 TRUTHS = ["true", "true", "true", "True", "false", "FALSE", "yes"]
