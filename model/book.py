@@ -45,16 +45,16 @@ class Book:
     def __init__(self, key, opened, entries=MOST_ENTRIES, weight=MOST_WEIGHT):
         self.key, self.time = key, opened
         self.most_entries, self.most_weight = entries, weight
-        self.entries = 0
+        self.history = []  # what was entered: call; finish, run, ruling; park, run, why; tick, moment
         self.requests_weight = 0
         self.rows = book_rows.opening(opened)
-        self.live = []  # the attempts whose runs wait, the earliest first
+        self.live = {}  # the attempts whose runs wait, the earliest first, and the number of each one's run
 
     # ---- Room
 
     def used(self):
         """The entries, and one for the end of each run that waits."""
-        return self.entries + len(self.live)
+        return len(self.history) + len(self.live)
 
     def weight(self):
         return self.requests_weight + sum(book_rows.weight(row) for row in self.rows)
@@ -69,14 +69,14 @@ class Book:
         """A request: answered with a reply, or with the attempt that waits, or FULL, where it isn't entered."""
         if self.is_full(request):
             return FULL
-        self.entries += 1
+        self.history.append(("call",))
         self.requests_weight += length(request)
         try:
             answer = self.carried_out(request)
         except Refusal as refusal:
             return refusal.reply()
         if isinstance(answer, intents.Waits):
-            self.live.append(answer.attempt)
+            self.live[answer.attempt] = len(self.history)
             return answer
         return Reply(200, answer)
 
@@ -102,8 +102,7 @@ class Book:
 
     def finish(self, attempt, ruling):
         """The acquirer's ruling on an attempt: the reply to the call that began it."""
-        self.entries += 1
-        self.live.remove(attempt)
+        self.history.append(("finish", self.live.pop(attempt), ruling))
         batch = self.batch(book_rows.PLATFORM)
         try:
             return Reply(200, intents.settle(batch, attempt, ruling))
@@ -114,8 +113,7 @@ class Book:
 
     def park(self, attempt, why):
         """The end of a run without a ruling."""
-        self.entries += 1
-        self.live.remove(attempt)
+        self.history.append(("park", self.live.pop(attempt), why))
         batch = self.batch(book_rows.PLATFORM)
         intents.park(batch, attempt)
         batch.close()
@@ -125,7 +123,7 @@ class Book:
         """Time has passed on the host's own clock. It takes one entry, and never goes back."""
         if self.used() + 1 > self.most_entries:
             return FULL
-        self.entries += 1
+        self.history.append(("tick", now))
         self.time = max(self.time, now)
         return None
 
@@ -134,7 +132,7 @@ class Book:
         return self.rows[attempt - 1].item["order"]
 
     def batch(self, account):
-        return book_rows.Batch(self.rows, self.time, account, self.entries)
+        return book_rows.Batch(self.rows, self.time, account, len(self.history))
 
 
 def length(request):

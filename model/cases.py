@@ -6,8 +6,10 @@
 import re
 import sys
 
+import acquirer
 import history
 import session
+from book import Book
 
 ESCAPE = re.compile(rb"\\(?:([rnt\\])|x([0-9A-Fa-f]{2})|\{([^*}]*)\*([0-9]+)\})")
 PLAIN = {b"r": b"\r", b"n": b"\n", b"t": b"\t", b"\\": b"\\"}
@@ -121,6 +123,78 @@ def run_session(name, fields, lines):
     return b"== %s\n%s\n" % (name, shown)
 
 
+# ---- Sessions over one book
+
+
+def run_book(name, fields, lines):
+    """What a case of sessions over one book prints."""
+    entries, limit, turns, failing = 100, 10, 1000, []
+    for field in fields:
+        words = field.split()
+        if words == [b"no", b"book"]:
+            entries = None
+        elif words[0] == b"entries":
+            entries = int(words[1])
+        elif words[0] == b"limit":
+            limit = int(words[1])
+        elif words[0] == b"turns":
+            turns = int(words[1])
+        elif words[:2] == [b"failing", b"writes"]:
+            failing = numbers(words[2:])
+        else:
+            raise ValueError(f"no such field: {field!r}")
+    printed = b"== %s\n" % name
+    if entries is None:
+        return printed + ending(session.Sink(4096, failing), without_book)
+    book = Book(b"sk_test_payhost", 1700000000, entries)
+    for data in sessions_of(lines):
+        source, link = session.Source(data, 4096, []), acquirer.Simulated()
+        serve = lambda sink: session.serve(book, source, sink, link, turns, limit)
+        printed += ending(session.Sink(4096, failing), serve)
+    return printed + b"".join(entry(*deed) for deed in book.history)
+
+
+def sessions_of(lines):
+    """The inputs of the sessions, which a line `--` stands between."""
+    parts = [[]]
+    for line in lines:
+        if line == b"--":
+            parts.append([])
+        else:
+            parts[-1].append(line)
+    return [input_of(part) for part in parts]
+
+
+def without_book(sink):
+    session.last_words(sink, "no_memory")
+    raise MemoryError
+
+
+def ending(sink, serve):
+    """How a session ended, and what it wrote."""
+    try:
+        replies, stop, status = serve(sink)
+        closed = f"{stop}({status})" if stop == "Refused" else stop
+        shown = "broken off: Full" if stop == "Full" else f"{replies} replies, {closed}"
+    except session.WriteFault:
+        shown = "broken off: WriteFault"
+    except MemoryError:
+        shown = "broken off: NoMemory"
+    return shown.encode() + b"\n" + sink.written + b"\n"
+
+
+RULINGS = {"approve": "Approved", "decline": "Declined(Generic)", "funds": "Declined(NoFunds)", "challenge": "Challenge"}
+
+
+def entry(deed, *said):
+    """A line for an entry of a history."""
+    if deed == "finish":
+        said = said[0], RULINGS.get(said[1], said[1])
+    elif deed == "park":
+        said = said[0], said[1].capitalize()
+    return " ".join([deed, *map(str, said)]).encode() + b"\n"
+
+
 # ---- Histories
 
 
@@ -141,19 +215,23 @@ def run_history(name, fields, lines):
     return b"\n".join(printed) + b"\n\n"
 
 
-def is_history(path, cases):
+KINDS = {"sessions": run_session, "books": run_book, "histories": run_history}
+
+
+def kind_of(path, cases):
     """The nearest folder that is named so says it; elsewhere a session is known by its requests."""
     for folder in reversed(path.split("/")[:-1]):
-        if folder in ("sessions", "histories"):
-            return folder == "histories"
-    return not any(begins_request(line) for _, _, lines in cases for line in lines)
+        if folder in KINDS:
+            return KINDS[folder]
+    is_sent = any(begins_request(line) for _, _, lines in cases for line in lines)
+    return run_session if is_sent else run_history
 
 
 def main(paths):
     for path in paths:
         with open(path, "rb") as file:
             cases = cases_of(file.read())
-        run = run_history if is_history(path, cases) else run_session
+        run = kind_of(path, cases)
         for case in cases:
             sys.stdout.buffer.write(run(*case))
 

@@ -40,14 +40,14 @@ class Steps:
         if word == "tick":
             return self.book.tick(int(given[0])) or "done"
         if word == "entries":
-            return f"{self.book.entries} entries, {len(self.book.rows)} rows"
+            return f"{len(self.book.history)} entries, {len(self.book.rows)} rows"
         if word == "balance":
             available, pending = money.balance(self.book.rows, int(given[0]), given[1], self.book.time)
             return f"available {available} pending {pending}"
         raise ValueError(f"not understood: {line!r}")
 
     def ticket(self, given):
-        return int(given[0]) if given else self.book.live[0]
+        return int(given[0]) if given else next(iter(self.book.live))
 
     def call(self, words, plain, headers):
         method, target, *body = words

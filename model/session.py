@@ -53,6 +53,10 @@ class Sink:
             data = data[self.most :]
 
 
+# How a session ends that serves its input to an end: the statuses of the program
+STATUSES = {"End": ENDED, "Asked": ENDED, "Limit": CLOSED, "Refused": CLOSED, "Cut": CUT, "Full": FULL_HISTORY}
+
+
 def run(line, source, sink, script=None):
     """Runs the program with these words; answers its exit status. Without a script the acquirer is simulated."""
     plan = words.plan(line)
@@ -61,40 +65,50 @@ def run(line, source, sink, script=None):
             sink.write(words.USAGE)
             return USAGE
         link = acquirer.Simulated() if script is None else acquirer.Scripted(script)
-        return serve(Book(plan.key, plan.clock), source, sink, link, plan.patience)
+        _, stop, _ = serve(Book(plan.key, plan.clock), source, sink, link, plan.patience)
+        return STATUSES[stop]
     except ReadFault:
         return READ_FAULT
     except WriteFault:
         return USAGE if plan is None else WRITE_FAULT
 
 
-def serve(book, source, sink, link, patience):
-    """One request after another, each answered before the next is read."""
+def serve(book, source, sink, link, patience, limit=MOST_REQUESTS):
+    """One request after another, each answered before the next is read. Answers how many replies there were, why it
+    stopped, and the status of a closing reply."""
     data, ended = b"", False
     answered = 0
-    while True:
+    while answered < limit:
         item = http.first_item(data, ended)
         if item.kind == "more":
             piece = source.read()
             data, ended = data + piece, piece == b""
             continue
         if item.kind in ("end", "cut"):
-            return ENDED if item.kind == "end" else CUT
+            return answered, "End" if item.kind == "end" else "Cut", None
         if item.kind == "close":
-            sink.write(written(Refusal(item.value).reply(), True))
-            return CLOSED
+            last_words(sink, item.value)
+            return answered, "Refused", Refusal(item.value).reply().status
         request, data = item.value, item.rest
         if request.waits:
             sink.write(http.CONTINUE)
         reply = answer(book, request, link, patience)
         if reply == FULL:
-            sink.write(written(Refusal("history_full").reply(), True))
-            return FULL_HISTORY
+            last_words(sink, "history_full")
+            return answered, "Full", None
         answered += 1
-        last = request.close or answered == MOST_REQUESTS
-        sink.write(written(reply, last))
-        if last:
-            return ENDED if request.close else CLOSED
+        sink.write(written(reply, request.close or answered == limit))
+        if request.close:
+            return answered, "Asked", None
+    return answered, "Limit", None
+
+
+def last_words(sink, problem):
+    """A reply that closes the session and is to no call: it takes no memory, so its head and its body are written one
+    after the other."""
+    head, mark, body = written(Refusal(problem).reply(), True).partition(b"\r\n\r\n")
+    sink.write(head + mark)
+    sink.write(body)
 
 
 def answer(book, request, link, patience):
