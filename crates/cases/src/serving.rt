@@ -11,8 +11,8 @@
 //!
 //! Then the sessions, with a line `--` between any two, whose lines are those of `input.rt`.
 //!
-//! It prints a line `== NAME`; for each session a line that says how it ended, the bytes of its output and a line end; and
-//! a line for each entry.
+//! It prints a line `== NAME`; for each session a line that says how it ended, the bytes of its output and a line end;
+//! and a line for each entry.
 
 use crate::case::{Case, CaseError};
 use crate::input::read_input;

@@ -5,8 +5,8 @@ use ph_base::NoMemory;
 use ph_json::{Doc, Members, text};
 use std::alloc::Global;
 
-/// `NAME | write | DOCUMENT`: the document's text. The document is written as JSON, with a blank between any two tokens,
-/// which commas may follow, and with this program's escapes in place of those of JSON.
+/// `NAME | write | DOCUMENT`: the document's text. The document is written as JSON, with a blank between any two
+/// tokens, which commas may follow, and with this program's escapes in place of those of JSON.
 pub fn read(alloc: Global, line: Line) -> Result<Vec<u8>, NoMemory> {
     match document(alloc, line.field(2))? {
         Some(doc) => Ok(text(alloc, &doc)?.into_vec()),

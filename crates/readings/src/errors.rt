@@ -7,12 +7,16 @@ use ph_base::{Bytes, Decline, NoMemory};
 use ph_errors::{ApiError, Fixed, Refusal, body};
 use std::alloc::Global;
 
-/// `NAME | ERROR`, `NAME | ERROR | PARAMETER or PLACE`, `NAME | ERROR | | DOCUMENT`: the bytes of the error's reply; the document is
-/// the payment intent that it shows.
+/// `NAME | ERROR`, `NAME | ERROR | PARAMETER`, `NAME | ERROR | PLACE`, `NAME | ERROR | | DOCUMENT`: the bytes of the
+/// error's reply; the document is the payment intent that it shows. `NAME | closing | STATUS`: the reply that closes a
+/// session.
 pub fn read(alloc: Global, line: Line) -> Result<Vec<u8>, NoMemory> {
-    match fixed(line) {
-        Some(error) => fixed_reply(alloc, error),
-        None => made_reply(alloc, line),
+    match line.field(1) {
+        "closing" => closing(alloc, line.number(2)),
+        name => match fixed(name) {
+            Some(error) => fixed_reply(alloc, error),
+            None => made_reply(alloc, line),
+        },
     }
 }
 
@@ -104,17 +108,24 @@ fn api_reply(alloc: Global, error: &ApiError, intent: &str) -> Result<Vec<u8>, N
 }
 
 // The error that takes no memory, where one is named.
-fn fixed(line: Line) -> Option<Fixed> {
-    match line.field(1) {
+fn fixed(name: &str) -> Option<Fixed> {
+    match name {
         "acquirer_pending" => Some(Fixed::AcquirerPending),
         "acquirer_failed" => Some(Fixed::AcquirerFailed),
         "no_memory" => Some(Fixed::NoMemory),
         "history_full" => Some(Fixed::HistoryFull),
-        "closing" => match u16::try_from(line.number(2)) {
-            Ok(status) => Fixed::closing(status),
-            Err(_) => None,
-        },
         _ => None,
+    }
+}
+
+// The reply that closes a session with this status, if one does.
+fn closing(alloc: Global, number: u64) -> Result<Vec<u8>, NoMemory> {
+    match u16::try_from(number) {
+        Ok(status) => match Fixed::closing(status) {
+            Some(error) => fixed_reply(alloc, error),
+            None => said(alloc, "none"),
+        },
+        Err(_) => unknown(alloc),
     }
 }
 

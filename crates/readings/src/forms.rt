@@ -7,9 +7,9 @@ use ph_base::NoMemory;
 use ph_form::{Form, FormFault, Leaf, read_form};
 use std::alloc::Global;
 
-/// `NAME | WORD | QUERY | BODY | ..`. The words: `leaves`, each as `name=text;`; `count`, how many; `text | .. | AT` and
-/// `node | .. | AT`, what stands there; `entries | .. | AT`, those of a map; `same | .. | QUERY | BODY`, whether the other
-/// form is the same.
+/// `NAME | WORD | QUERY | BODY | ..`. The words: `leaves`, each as `name=text;`; `count`, how many; `text | .. | AT`
+/// and `node | .. | AT`, what stands there; `entries | .. | AT`, those of a map; `same | .. | QUERY | BODY`, whether
+/// the other form is the same.
 pub fn read(alloc: Global, line: Line) -> Result<Vec<u8>, NoMemory> {
     match form_at(alloc, line, 2) {
         Ok(form) => told(alloc, line, &form),

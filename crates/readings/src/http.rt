@@ -8,10 +8,10 @@ use ph_base::{Bytes, NoMemory, read_number};
 use ph_http::{Next, Raw, Reply, Talk, render};
 use std::alloc::Global;
 
-/// `NAME | items | SIZES | BYTES`: the items of the bytes, which are fed in pieces of each of these sizes, apart by blanks.
-/// `NAME | fronts | FROM | BYTES`: the items of each front of the bytes with that many bytes or more, by its length where
-/// they aren't those of the front before, in pieces of 1, of 7 and in one.
-/// `NAME | reply | STATUS | BODY | WORDS`: the reply's bytes; the words are `replayed`, `retry` and `last`.
+/// `NAME | items | SIZES | BYTES`: the items of the bytes, which are fed in pieces of each of these sizes, apart by
+/// blanks. `NAME | fronts | FROM | BYTES`: the items of each front of the bytes with that many bytes or more, by its
+/// length where they aren't those of the front before, in pieces of 1, of 7 and in one. `NAME | reply | STATUS | BODY |
+/// WORDS`: the reply's bytes; the words are `replayed`, `retry` and `last`.
 pub fn read(alloc: Global, line: Line) -> Result<Vec<u8>, NoMemory> {
     match line.field(1) {
         "items" => items(alloc, line),

@@ -8,8 +8,8 @@ use ph_form::{Form, FormFault, read_form};
 use ph_kinds::{Flaw, Kind, events_at, map_flaw, read_method, text_flaw};
 use std::alloc::Global;
 
-/// `NAME | text | KIND | TEXT` and `NAME | map | KIND`: `taken`, or the flaw. `NAME | method | TEXT`: the payment method.
-/// `NAME | events | BODY`: the types at `enabled_events` of a form, or the flaw.
+/// `NAME | text | KIND | TEXT` and `NAME | map | KIND`: `taken`, or the flaw. `NAME | method | TEXT`: the payment
+/// method. `NAME | events | BODY`: the types at `enabled_events` of a form, or the flaw.
 pub fn read(alloc: Global, line: Line) -> Result<Vec<u8>, NoMemory> {
     match line.field(1) {
         "text" => text(alloc, line),

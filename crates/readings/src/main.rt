@@ -1,8 +1,8 @@
 //! Runs the readers of payhost's lower libraries over tables of texts, and prints what each text is read as.
 //!
-//! The arguments name the tables, files of which each has a reader of its own. A line of a table is a case: fields between
-//! `|`, of which the first is the case's name and the second says what is asked of the reader; blanks around a field
-//! don't count. Lines without a `|`, and those that begin with `#`, describe the table. For each case one line is
+//! The arguments name the tables, files of which each has a reader of its own. A line of a table is a case: fields
+//! between `|`, of which the first is the case's name and the second says what is asked of the reader; blanks around a
+//! field don't count. Lines without a `|`, and those that begin with `#`, describe the table. For each case one line is
 //! printed: its name, and what was read. In both, bytes that can't be seen are written as `line.rt` says.
 #![tactic(auto)]
 

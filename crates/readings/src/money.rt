@@ -5,8 +5,8 @@ use ph_base::NoMemory;
 use ph_money::{Amount, Currency, SignedAmount, fee, part};
 use std::alloc::Global;
 
-/// `NAME | fee | CODE | AMOUNT`, `NAME | part | TOTAL | OF | WHOLE`, `NAME | least | CODE`: the currency and its least amount,
-/// `NAME | signed | AMOUNT`: the amount given, and taken.
+/// `NAME | fee | CODE | AMOUNT`, `NAME | part | TOTAL | OF | WHOLE`, `NAME | least | CODE`: the currency and its least
+/// amount, `NAME | signed | AMOUNT`: the amount given, and taken.
 pub fn read(alloc: Global, line: Line) -> Result<Vec<u8>, NoMemory> {
     match line.field(1) {
         "fee" => fees(alloc, line),

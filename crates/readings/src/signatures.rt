@@ -5,8 +5,8 @@ use ph_base::{Bytes, NoMemory};
 use ph_sign::{header, hmac, verify};
 use std::alloc::Global;
 
-/// `NAME | hash | KEY | TEXT`: the keyed hash in digits. `NAME | header | MOMENT | BODY | SECRET SECRET ..`: the header.
-/// `NAME | verdict | HEADER | SECRET | BODY | NOW | TOLERANCE`: what the header is worth.
+/// `NAME | hash | KEY | TEXT`: the keyed hash in digits. `NAME | header | MOMENT | BODY | SECRET SECRET ..`: the
+/// header. `NAME | verdict | HEADER | SECRET | BODY | NOW | TOLERANCE`: what the header is worth.
 pub fn read(alloc: Global, line: Line) -> Result<Vec<u8>, NoMemory> {
     match line.field(1) {
         "hash" => hash(alloc, line),

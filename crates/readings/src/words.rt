@@ -8,8 +8,8 @@ use ph_rows::{
 };
 use std::alloc::Global;
 
-/// `NAME | event | TYPE` and `NAME | word | VALUE`: the word that is printed. `NAME | metadata | KEY=TEXT -KEY ..`: the pairs after each
-/// was set or taken away in turn.
+/// `NAME | event | TYPE` and `NAME | word | VALUE`: the word that is printed. `NAME | metadata | KEY=TEXT -KEY ..`: the
+/// pairs after each was set or taken away in turn.
 pub fn read(alloc: Global, line: Line) -> Result<Vec<u8>, NoMemory> {
     match line.field(1) {
         "event" => event_text(alloc, line.field(2)),

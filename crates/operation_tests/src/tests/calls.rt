@@ -1,4 +1,5 @@
-//! Calls that no request of a session reaches: methods that the host refuses before, and a body that is too large for it.
+//! Calls that no request of a session reaches: methods that the host refuses before, and a body that is too large for
+//! it.
 
 use ph_base::{Bytes, NoMemory};
 use ph_calls::{Call, read_call};
