@@ -6,7 +6,7 @@ use ph_money::{Amount, Currency};
 use ph_rows::{CancellationReason, CaptureMethod, PaymentMethod, RefundReason};
 
 /// `POST /v1/payment_intents`
-#[derive(Drop, Debug)]
+#[derive(Drop)]
 pub struct CreateIntent {
     /// In minor units of the currency, not below its minimum.
     pub amount: Amount,
@@ -23,14 +23,14 @@ pub struct CreateIntent {
 }
 
 /// `GET /v1/payment_intents/{id}`
-#[derive(Drop, Debug)]
+#[derive(Drop)]
 pub struct GetIntent {
     /// The segment of the path, which is read as an id when the call is carried out.
     pub id: Bytes,
 }
 
 /// `POST /v1/payment_intents/{id}`: what it doesn't name stays.
-#[derive(Drop, Debug)]
+#[derive(Drop)]
 pub struct UpdateIntent {
     /// The segment of the path, which is read as an id when the call is carried out.
     pub id: Bytes,
@@ -46,7 +46,7 @@ pub struct UpdateIntent {
 }
 
 /// `POST /v1/payment_intents/{id}/confirm`
-#[derive(Drop, Debug)]
+#[derive(Drop)]
 pub struct ConfirmIntent {
     /// The segment of the path, which is read as an id when the call is carried out.
     pub id: Bytes,
@@ -55,7 +55,7 @@ pub struct ConfirmIntent {
 }
 
 /// `POST /v1/payment_intents/{id}/capture`
-#[derive(Drop, Debug)]
+#[derive(Drop)]
 pub struct CaptureIntent {
     /// The segment of the path, which is read as an id when the call is carried out.
     pub id: Bytes,
@@ -64,7 +64,7 @@ pub struct CaptureIntent {
 }
 
 /// `POST /v1/payment_intents/{id}/cancel`
-#[derive(Drop, Debug)]
+#[derive(Drop)]
 pub struct CancelIntent {
     /// The segment of the path, which is read as an id when the call is carried out.
     pub id: Bytes,
@@ -72,14 +72,14 @@ pub struct CancelIntent {
 }
 
 /// `GET /v1/charges/{id}`
-#[derive(Drop, Debug)]
+#[derive(Drop)]
 pub struct GetCharge {
     /// The segment of the path, which is read as an id when the call is carried out.
     pub id: Bytes,
 }
 
 /// `POST /v1/refunds`, of a charge or of the latest charge of a payment intent: exactly one of the two is named.
-#[derive(Drop, Debug)]
+#[derive(Drop)]
 pub struct CreateRefund {
     /// Read as an id when the call is carried out.
     pub charge: Option<Bytes>,
@@ -92,21 +92,21 @@ pub struct CreateRefund {
 }
 
 /// `GET /v1/refunds/{id}`
-#[derive(Drop, Debug)]
+#[derive(Drop)]
 pub struct GetRefund {
     /// The segment of the path, which is read as an id when the call is carried out.
     pub id: Bytes,
 }
 
 /// `GET /v1/disputes/{id}`
-#[derive(Drop, Debug)]
+#[derive(Drop)]
 pub struct GetDispute {
     /// The segment of the path, which is read as an id when the call is carried out.
     pub id: Bytes,
 }
 
 /// `POST /v1/disputes/{id}`: evidence against a dispute.
-#[derive(Drop, Debug)]
+#[derive(Drop)]
 pub struct SendEvidence {
     /// The segment of the path, which is read as an id when the call is carried out.
     pub id: Bytes,
@@ -115,32 +115,32 @@ pub struct SendEvidence {
 }
 
 /// `POST /v1/disputes/{id}/close`: the dispute is given up.
-#[derive(Drop, Debug)]
+#[derive(Drop)]
 pub struct CloseDispute {
     /// The segment of the path, which is read as an id when the call is carried out.
     pub id: Bytes,
 }
 
 /// `GET /v1/balance`
-#[derive(Drop, Debug)]
+#[derive(Drop)]
 pub struct GetBalance {}
 
 /// `GET /v1/balance_transactions/{id}`
-#[derive(Drop, Debug)]
+#[derive(Drop)]
 pub struct GetTxn {
     /// The segment of the path, which is read as an id when the call is carried out.
     pub id: Bytes,
 }
 
 /// `POST /_host/clock`: payhost's own, which sets the time.
-#[derive(Drop, Debug)]
+#[derive(Drop)]
 pub struct SetClock {
     /// In seconds since the beginning of 1970, at most 253402300799, the last second of the year 9999.
     pub now: u64,
 }
 
 /// `POST /_host/payment_intents/{id}/authenticate`: payhost's own, in place of the customer's bank.
-#[derive(Drop, Debug)]
+#[derive(Drop)]
 pub struct Authenticate {
     /// The segment of the path, which is read as an id when the call is carried out.
     pub id: Bytes,
@@ -148,7 +148,7 @@ pub struct Authenticate {
 }
 
 /// A call of the API: one variant for each row of the table of calls.
-#[derive(Drop, Debug)]
+#[derive(Drop)]
 pub enum Call {
     CreateIntent(CreateIntent),
     GetIntent(GetIntent),

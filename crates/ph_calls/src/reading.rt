@@ -2,6 +2,9 @@
 ghost use Rattle.std.specs.Prelude.{◌≡◌, IfErr, IfOk, Ok, Err};
 ghost use Rattle.ph_calls.specs.Reading.{Refuses, call_of, reading_by, reading_of, unless_error};
 ghost use Rattle.ph_calls.specs.Table.{line_of};
+ghost use Rattle.ph_calls.specs.Intents.{create_intent, create_intent_error};
+ghost use Rattle.ph_calls.specs.Refunds.{create_refund, create_refund_error};
+ghost use Rattle.ph_calls.specs.Clock.{set_clock, set_clock_error};
 
 use crate::call::{
     Call, CloseDispute, GetBalance, GetCharge, GetDispute, GetIntent, GetRefund, GetTxn,
@@ -23,14 +26,42 @@ use ph_form::{Form, FormFault, read_form};
 use ph_http::Raw;
 use std::alloc::Global;
 
-/// The error, or else the call.
-fn unless_error(error: Option<ApiError>, call: Call) -> Result<Call, Refusal>
-    ensures call { IfOk result (λ made. unless_error error (Ok call) ≡ Ok made) }
-    ensures refusal { IfErr result (Refuses (unless_error error (Ok call))) }
+/// A payment intent to be created, or the error of the first of its further checks.
+fn checked_intent(alloc: Global, form: &Form) -> Result<Call, Refusal>
+    ensures call { IfOk result (λ made. unless_error (create_intent_error (create_intent form.now)) (Ok (Call.CreateIntent (create_intent form.now))) ≡ Ok made) }
+    ensures refusal { IfErr result (Refuses (unless_error (create_intent_error (create_intent form.now)) (Ok (Call.CreateIntent (create_intent form.now))))) }
 {
+    let call = create_intent(alloc, form)?;
+    let error = create_intent_error(alloc, &call)?;
     match error {
         Some(error) => Err(Refusal::Api(error)),
-        None => Ok(call),
+        None => Ok(Call::CreateIntent(call)),
+    }
+}
+
+/// A refund to be created, or the error of the first of its further checks.
+fn checked_refund(alloc: Global, form: &Form) -> Result<Call, Refusal>
+    ensures call { IfOk result (λ made. unless_error (create_refund_error (create_refund form.now)) (Ok (Call.CreateRefund (create_refund form.now))) ≡ Ok made) }
+    ensures refusal { IfErr result (Refuses (unless_error (create_refund_error (create_refund form.now)) (Ok (Call.CreateRefund (create_refund form.now))))) }
+{
+    let call = create_refund(alloc, form)?;
+    let error = create_refund_error(alloc, &call)?;
+    match error {
+        Some(error) => Err(Refusal::Api(error)),
+        None => Ok(Call::CreateRefund(call)),
+    }
+}
+
+/// A clock to be set, or the error of the first of its further checks.
+fn checked_clock(alloc: Global, form: &Form) -> Result<Call, Refusal>
+    ensures call { IfOk result (λ made. unless_error (set_clock_error (set_clock form.now)) (Ok (Call.SetClock (set_clock form.now))) ≡ Ok made) }
+    ensures refusal { IfErr result (Refuses (unless_error (set_clock_error (set_clock form.now)) (Ok (Call.SetClock (set_clock form.now))))) }
+{
+    let call = set_clock(form);
+    let error = set_clock_error(alloc, &call)?;
+    match error {
+        Some(error) => Err(Refusal::Api(error)),
+        None => Ok(Call::SetClock(call)),
     }
 }
 
@@ -40,11 +71,7 @@ fn make_call(alloc: Global, name: Name, id: &[u8], form: &Form) -> Result<Call, 
     ensures refusal { IfErr result (Refuses (call_of name id.now form.now)) }
 {
     match name {
-        Name::CreateIntent => {
-            let call = create_intent(alloc, form)?;
-            let error = create_intent_error(alloc, &call)?;
-            unless_error(error, Call::CreateIntent(call))
-        }
+        Name::CreateIntent => checked_intent(alloc, form),
         Name::GetIntent => Ok(Call::GetIntent(GetIntent {
             id: Bytes::from_slice(alloc, id)?,
         })),
@@ -55,11 +82,7 @@ fn make_call(alloc: Global, name: Name, id: &[u8], form: &Form) -> Result<Call, 
         Name::GetCharge => Ok(Call::GetCharge(GetCharge {
             id: Bytes::from_slice(alloc, id)?,
         })),
-        Name::CreateRefund => {
-            let call = create_refund(alloc, form)?;
-            let error = create_refund_error(alloc, &call)?;
-            unless_error(error, Call::CreateRefund(call))
-        }
+        Name::CreateRefund => checked_refund(alloc, form),
         Name::GetRefund => Ok(Call::GetRefund(GetRefund {
             id: Bytes::from_slice(alloc, id)?,
         })),
@@ -74,11 +97,7 @@ fn make_call(alloc: Global, name: Name, id: &[u8], form: &Form) -> Result<Call, 
         Name::GetTxn => Ok(Call::GetTxn(GetTxn {
             id: Bytes::from_slice(alloc, id)?,
         })),
-        Name::SetClock => {
-            let call = set_clock(form);
-            let error = set_clock_error(alloc, &call)?;
-            unless_error(error, Call::SetClock(call))
-        }
+        Name::SetClock => checked_clock(alloc, form),
         Name::Authenticate => Ok(Call::Authenticate(authenticate_intent(alloc, id, form)?)),
     }
 }
