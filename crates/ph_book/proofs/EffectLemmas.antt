@@ -10,22 +10,22 @@ use Rattle.ph_base.specs.declared.acquirer.Why.TheVariants as why
 use Rattle.ph_attempts.specs.declared.flights.Attempt as flights
 use Rattle.ph_attempts.specs.declared.flights.Flight.{Flight}
 use Rattle.ph_errors.specs.Table.{CardDeclined, NoSuchObject, error_of}
-use Rattle.ph_rows.specs.declared.attempts.Attempt.{Attempt}
+use Rattle.ph_items.specs.declared.attempts.Attempt.{Attempt}
 use Rattle.ph_rows.specs.declared.rows.Row.{Row}
 use Rattle.ph_charges.specs.Approvals.{charge_number, with_approved}
-use Rattle.ph_rows.specs.declared.charges.ChargeStatus.TheVariants as charge_status
+use Rattle.ph_items.specs.declared.charges.ChargeStatus.TheVariants as charge_status
 use Rattle.ph_charges.specs.Charges.{new_charge}
-use Rattle.ph_rows.specs.declared.intents.CaptureMethod.{CaptureMethod}
-use Rattle.ph_rows.specs.declared.intents.CaptureMethod.TheVariants as capture_method
-use Rattle.ph_rows.specs.declared.intents.Intent.{Intent}
-use Rattle.ph_rows.specs.declared.orders.Order.{Order}
+use Rattle.ph_items.specs.declared.intents.CaptureMethod.{CaptureMethod}
+use Rattle.ph_items.specs.declared.intents.CaptureMethod.TheVariants as capture_method
+use Rattle.ph_items.specs.declared.intents.Intent.{Intent}
+use Rattle.ph_items.specs.declared.orders.Order.{Order}
 use Rattle.ph_rows.specs.Batches.{BatchState, empty_batch, version_with}
-use Rattle.ph_rows.specs.Items.{attempt_in, intent_in}
+use Rattle.ph_items.specs.Items.{attempt_in, intent_in}
 use Rattle.ph_rows.specs.Rows.{latest_of}
 use Rattle.ph_http.specs.declared.message.Raw.{Raw}
 use Rattle.ph_http.specs.declared.message.Reply.{Reply}
 use Rattle.ph_http.specs.Replies.{is_status}
-use Rattle.ph_calls.specs.Outcomes.{Outcome, Refuses, Adds}
+use Rattle.ph_facts.specs.Outcomes.{Outcome, Refuses, Adds}
 use Rattle.ph_intents.specs.Attempts.{begun}
 use Rattle.ph_intents.specs.Settle.{settle_outcome, settle_row, settle_attempt, settle_intent, settle_both, with_charge, with_settled}
 use Rattle.ph_book.specs.declared.setup.Setup.{Setup}

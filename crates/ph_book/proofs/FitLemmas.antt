@@ -16,25 +16,25 @@ use Rattle.ph_errors.specs.Table.{AmountTooSmall, ChargeAlreadyRefunded, ChargeD
 use Rattle.ph_kinds.specs.declared.authentication.Authentication.{Authentication}
 use Rattle.ph_kinds.specs.declared.authentication.Authentication.TheVariants.{Succeeded, Failed}
 use Rattle.ph_rows.specs.declared.rows.Row.{Row}
-use Rattle.ph_rows.specs.declared.attempts.Attempt.{Attempt}
-use Rattle.ph_rows.specs.declared.charges.Capture.{Capture}
-use Rattle.ph_rows.specs.declared.charges.Charge.{Charge}
-use Rattle.ph_rows.specs.declared.disputes.Dispute.{Dispute}
-use Rattle.ph_rows.specs.declared.disputes.DisputeStatus.{DisputeStatus}
-use Rattle.ph_rows.specs.declared.disputes.DisputeStatus.TheVariants as dispute_status
-use Rattle.ph_rows.specs.declared.items.Item.{Item}
-use Rattle.ph_rows.specs.declared.items.Item.TheVariants as item
-use Rattle.ph_rows.specs.declared.intents.Intent.{Intent}
-use Rattle.ph_rows.specs.declared.intents.IntentStatus.{IntentStatus}
-use Rattle.ph_rows.specs.declared.orders.Order.{Order}
-use Rattle.ph_rows.specs.declared.payment_methods.PaymentMethod.{PaymentMethod}
+use Rattle.ph_items.specs.declared.attempts.Attempt.{Attempt}
+use Rattle.ph_items.specs.declared.charges.Capture.{Capture}
+use Rattle.ph_items.specs.declared.charges.Charge.{Charge}
+use Rattle.ph_items.specs.declared.disputes.Dispute.{Dispute}
+use Rattle.ph_items.specs.declared.disputes.DisputeStatus.{DisputeStatus}
+use Rattle.ph_items.specs.declared.disputes.DisputeStatus.TheVariants as dispute_status
+use Rattle.ph_items.specs.declared.items.Item.{Item}
+use Rattle.ph_items.specs.declared.items.Item.TheVariants as item
+use Rattle.ph_items.specs.declared.intents.Intent.{Intent}
+use Rattle.ph_items.specs.declared.intents.IntentStatus.{IntentStatus}
+use Rattle.ph_items.specs.declared.orders.Order.{Order}
+use Rattle.ph_items.specs.declared.payment_methods.PaymentMethod.{PaymentMethod}
 use Rattle.ph_rows.specs.declared.batches.Announced.{Announced}
-use Rattle.ph_rows.specs.declared.event_kinds.EventKind.{EventKind}
-use Rattle.ph_rows.specs.declared.event_kinds.EventKind.TheVariants as event
-use Rattle.ph_rows.specs.declared.intents.CancellationReason.{CancellationReason}
-use Rattle.ph_rows.specs.declared.intents.PaymentError.TheVariants as payment_error
+use Rattle.ph_items.specs.declared.event_kinds.EventKind.{EventKind}
+use Rattle.ph_items.specs.declared.event_kinds.EventKind.TheVariants as event
+use Rattle.ph_items.specs.declared.intents.CancellationReason.{CancellationReason}
+use Rattle.ph_items.specs.declared.intents.PaymentError.TheVariants as payment_error
 use Rattle.ph_rows.specs.Batches.{BatchState, empty_batch, last_place, next_row, version_with, with_announced, with_row, event_rows, made_rows}
-use Rattle.ph_rows.specs.Items.{attempt_in, charge_in, dispute_in, intent_in}
+use Rattle.ph_items.specs.Items.{attempt_in, charge_in, dispute_in, intent_in}
 use Rattle.ph_rows.specs.Names.{object_named, owned_named}
 use Rattle.ph_rows.specs.Rows.{later_version, latest_of}
 use Rattle.ph_http.specs.declared.message.Raw.{Raw}
@@ -45,9 +45,9 @@ use Rattle.ph_calls.specs.declared.call.CaptureIntent.{CaptureIntent}
 use Rattle.ph_calls.specs.declared.call.CreateIntent.{CreateIntent}
 use Rattle.ph_calls.specs.declared.call.CreateRefund.{CreateRefund}
 use Rattle.ph_calls.specs.declared.call.UpdateIntent.{UpdateIntent}
-use Rattle.ph_calls.specs.Outcomes.{Outcome, Refuses, Adds}
+use Rattle.ph_facts.specs.Outcomes.{Outcome, Refuses, Adds}
 use Rattle.ph_calls.specs.Reading.{reading_of}
-use Rattle.ph_views.specs.Events.{platform}
+use Rattle.ph_items.specs.Accounts.{platform}
 use Rattle.ph_charges.specs.Captures as captures
 use Rattle.ph_disputes.specs.Answers.{evidence_of, verdict_on, with_evidence, with_verdict}
 use Rattle.ph_disputes.specs.Closing.{close_of}

@@ -3,11 +3,12 @@ use Rattle.std.proofs.Common.{◌≡◌, ℕ, ◌≤◌, ◌∷◌, Bool, true, 
 use Rattle.std.specs.List.{filter}
 use Rattle.std.proofs.lemmas.Bool.Decides.{nat_tests}
 use Rattle.std.proofs.lemmas.Int.{ints}
-use Rattle.ph_rows.specs.declared.movements.Movement.{Movement}
+use Rattle.ph_items.specs.declared.movements.Movement.{Movement}
 use Rattle.ph_rows.specs.declared.rows.Row.{Row}
-use Rattle.ph_rows.specs.Balances.{counts, movements_of, net_of}
-use Rattle.ph_rows.specs.Sound.{IsSound}
-use Rattle.ph_rows.specs.Transactions.{refunded_of}
+use Rattle.ph_items.specs.Movements.{counts}
+use Rattle.ph_rows.specs.Balances.{movements_of, net_of}
+use Rattle.ph_facts.specs.Sound.{IsSound}
+use Rattle.ph_facts.specs.Amounts.{refunded_of}
 use Rattle.ph_rows.specs.Views.{ViewState}
 use Rattle.ph_book.specs.Laws.{BalancesAreSums, DisputesMoveOnce, RefundsFit}
 

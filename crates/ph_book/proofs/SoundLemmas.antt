@@ -12,36 +12,37 @@ use Rattle.ph_errors.specs.Table.{ClockBackwards, InvalidApiKey, NoSuchAccount, 
 use Rattle.ph_http.specs.declared.message.Raw.{Raw}
 use Rattle.ph_kinds.specs.declared.authentication.Authentication.{Authentication}
 use Rattle.ph_kinds.specs.declared.authentication.Authentication.TheVariants.{Succeeded, Failed}
-use Rattle.ph_rows.specs.declared.attempts.Attempt.{Attempt}
-use Rattle.ph_rows.specs.declared.attempts.AttemptState.TheVariants as attempt_state
-use Rattle.ph_rows.specs.declared.events.Event.{Event}
-use Rattle.ph_rows.specs.declared.items.Item.{Item}
-use Rattle.ph_rows.specs.declared.items.Item.TheVariants as item
-use Rattle.ph_rows.specs.declared.orders.Order.{Order}
+use Rattle.ph_items.specs.declared.attempts.Attempt.{Attempt}
+use Rattle.ph_items.specs.declared.attempts.AttemptState.TheVariants as attempt_state
+use Rattle.ph_items.specs.declared.events.Event.{Event}
+use Rattle.ph_items.specs.declared.items.Item.{Item}
+use Rattle.ph_items.specs.declared.items.Item.TheVariants as item
+use Rattle.ph_items.specs.declared.orders.Order.{Order}
 use Rattle.ph_rows.specs.declared.rows.Row.{Row}
 use Rattle.ph_rows.specs.Batches.{BatchState, empty_batch, made_rows, with_row}
-use Rattle.ph_rows.specs.Entering.{MayBeEntered}
-use Rattle.ph_rows.specs.Items.{attempt_in}
-use Rattle.ph_rows.specs.Kinds.{kind_of}
+use Rattle.ph_facts.specs.Entering.{MayBeEntered}
+use Rattle.ph_items.specs.Items.{attempt_in}
+use Rattle.ph_items.specs.Kinds.{kind_of}
 use Rattle.ph_rows.specs.Names.{owned_named}
 use Rattle.ph_rows.specs.Rows.{latest_of}
-use Rattle.ph_rows.specs.Sound.{AreHeld, HaveMoves, HaveSums, IsSound, MayFollow, clock_limit}
+use Rattle.ph_facts.specs.Sound.{AreHeld, HaveMoves, HaveSums, IsSound, MayFollow}
+use Rattle.ph_items.specs.Clocks.{clock_limit}
 use Rattle.ph_rows.specs.Views.{ViewState}
-use Rattle.ph_rows.proofs.AmountLemmas.{sums_beside}
-use Rattle.ph_rows.proofs.EnterLemmas.{entered_sound}
-use Rattle.ph_rows.proofs.HeldLemmas.{held_beside}
-use Rattle.ph_rows.proofs.MoveLemmas.{moves_stay}
-use Rattle.ph_rows.proofs.SoundLemmas.{latest_of_sound, order_with_all, sound_empty, sound_later, sound_with_all}
-use Rattle.ph_rows.proofs.UnderwayLemmas.{IsUnderway, underway_further}
+use Rattle.ph_facts.proofs.AmountLemmas.{sums_beside}
+use Rattle.ph_facts.proofs.EnterLemmas.{entered_sound}
+use Rattle.ph_facts.proofs.HeldLemmas.{held_beside}
+use Rattle.ph_facts.proofs.MoveLemmas.{moves_stay}
+use Rattle.ph_facts.proofs.SoundLemmas.{latest_of_sound, order_with_all, sound_empty, sound_later, sound_with_all}
+use Rattle.ph_facts.proofs.UnderwayLemmas.{IsUnderway, underway_further}
 use Rattle.ph_calls.specs.declared.call.Authenticate.{Authenticate}
 use Rattle.ph_calls.specs.declared.call.Call.{Call}
 use Rattle.ph_calls.specs.declared.call.Call.TheVariants as call
 use Rattle.ph_calls.specs.Fit as calls
-use Rattle.ph_calls.specs.Keeps.{AddsSound, IsReady, batch_after}
-use Rattle.ph_calls.specs.Outcomes.{Outcome, Refuses, Adds}
+use Rattle.ph_facts.specs.Keeps.{AddsSound, IsReady, batch_after}
+use Rattle.ph_facts.specs.Outcomes.{Outcome, Refuses, Adds}
 use Rattle.ph_calls.specs.Reading.{reading_of}
 use Rattle.ph_calls.proofs.FitLemmas.{reading_fit}
-use Rattle.ph_views.specs.Events.{platform}
+use Rattle.ph_items.specs.Accounts.{platform}
 use Rattle.ph_intents.specs.Attempts.{begun}
 use Rattle.ph_intents.specs.Capture.{capture_outcome}
 use Rattle.ph_intents.specs.Create.{create_outcome, create_confirmed_outcome}

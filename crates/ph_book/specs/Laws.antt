@@ -2,13 +2,13 @@
 use Rattle.std.specs.Prelude.{◌≡◌, ℕ, pos, ◌+ℤ◌, ◌≤ℤ◌, List, Some}
 use Rattle.ph_money.specs.declared.currencies.Currency.{Currency}
 use Rattle.ph_rows.specs.declared.rows.Row.{Row}
-use Rattle.ph_rows.specs.declared.charges.Charge.{Charge}
-use Rattle.ph_rows.specs.declared.items.Item.TheVariants as item
+use Rattle.ph_items.specs.declared.charges.Charge.{Charge}
+use Rattle.ph_items.specs.declared.items.Item.TheVariants as item
 use Rattle.ph_rows.specs.Balances.{available_of, movements_of, net_of, pending_of}
-use Rattle.ph_rows.specs.Kinds.{kind_of}
+use Rattle.ph_items.specs.Kinds.{kind_of}
 use Rattle.ph_rows.specs.Rows.{latest_of, row_at}
-use Rattle.ph_rows.specs.Sound.{HaveMoves}
-use Rattle.ph_rows.specs.Transactions.{captured_of, refunded_of}
+use Rattle.ph_facts.specs.Sound.{HaveMoves}
+use Rattle.ph_facts.specs.Amounts.{captured_of, refunded_of}
 use Rattle.ph_views.specs.Values.{printed_id}
 
 -- the printed id of a row's object

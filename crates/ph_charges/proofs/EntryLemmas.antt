@@ -5,27 +5,27 @@ use Rattle.std.specs.Str.{is_utf8}
 use Rattle.std.proofs.lemmas.List.{length-append, append_assoc}
 use Rattle.ph_base.specs.declared.ids.Kind.TheVariants as kind
 use Rattle.ph_rows.specs.declared.rows.Row.{Row}
-use Rattle.ph_rows.specs.declared.items.Item.{Item}
-use Rattle.ph_rows.specs.declared.items.Item.TheVariants as item
-use Rattle.ph_rows.specs.declared.charges.Charge.{Charge}
-use Rattle.ph_rows.specs.declared.charges.ChargeStatus.TheVariants as status
-use Rattle.ph_rows.specs.declared.event_kinds.EventKind.{EventKind}
-use Rattle.ph_rows.specs.declared.event_kinds.EventKind.TheVariants as event
-use Rattle.ph_rows.specs.declared.intents.CaptureMethod.{CaptureMethod}
-use Rattle.ph_rows.specs.declared.intents.CaptureMethod.TheVariants as capture_method
-use Rattle.ph_rows.specs.declared.intents.Intent.{Intent}
+use Rattle.ph_items.specs.declared.items.Item.{Item}
+use Rattle.ph_items.specs.declared.items.Item.TheVariants as item
+use Rattle.ph_items.specs.declared.charges.Charge.{Charge}
+use Rattle.ph_items.specs.declared.charges.ChargeStatus.TheVariants as status
+use Rattle.ph_items.specs.declared.event_kinds.EventKind.{EventKind}
+use Rattle.ph_items.specs.declared.event_kinds.EventKind.TheVariants as event
+use Rattle.ph_items.specs.declared.intents.CaptureMethod.{CaptureMethod}
+use Rattle.ph_items.specs.declared.intents.CaptureMethod.TheVariants as capture_method
+use Rattle.ph_items.specs.declared.intents.Intent.{Intent}
 use Rattle.ph_rows.specs.Batches.{BatchState, next_row, with_row, with_announced}
-use Rattle.ph_rows.specs.Kinds.{kind_of}
-use Rattle.ph_rows.specs.Origins.{HasOrigin}
+use Rattle.ph_items.specs.Kinds.{kind_of}
+use Rattle.ph_facts.specs.Origins.{HasOrigin}
 use Rattle.ph_rows.specs.Rows.{row_at, latest_of}
-use Rattle.ph_rows.specs.Sound.{IsInOrder, IsSound, MayFollow}
+use Rattle.ph_facts.specs.Sound.{IsInOrder, IsSound, MayFollow}
 use Rattle.ph_rows.specs.Views.{ViewState}
-use Rattle.ph_rows.specs.Weights.{texts_of}
-use Rattle.ph_rows.specs.Words.{subject_of}
-use Rattle.ph_rows.proofs.BatchLemmas.{first_may_follow, further_may_follow, with_batch}
-use Rattle.ph_rows.proofs.FollowLemmas.{has_begun_origin}
-use Rattle.ph_rows.proofs.SoundLemmas.{latest_of_sound}
-use Rattle.ph_rows.proofs.UnderwayLemmas.{IsUnderway, underway_first, underway_told, underway_with}
+use Rattle.ph_items.specs.Weights.{texts_of}
+use Rattle.ph_items.specs.Words.{subject_of}
+use Rattle.ph_facts.proofs.BatchLemmas.{first_may_follow, further_may_follow, with_batch}
+use Rattle.ph_facts.proofs.FollowLemmas.{has_begun_origin}
+use Rattle.ph_facts.proofs.SoundLemmas.{latest_of_sound}
+use Rattle.ph_facts.proofs.UnderwayLemmas.{IsUnderway, underway_first, underway_told, underway_with}
 use Rattle.ph_charges.specs.Approvals.{approval_of, charge_number, decline_of, with_approved}
 use Rattle.ph_charges.specs.Charges.{captured_charge, new_charge, next_capture, with_captured}
 use Rattle.ph_charges.specs.Splits.{charge_txn}

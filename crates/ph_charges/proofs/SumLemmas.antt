@@ -8,23 +8,24 @@ use Rattle.std.proofs.lemmas.Int.{ints}
 use Rattle.std.proofs.lemmas.List.{append_assoc, length-append}
 use Rattle.std.proofs.lemmas.List.Sums.{fold_push}
 use Rattle.ph_rows.specs.declared.rows.Row.{Row}
-use Rattle.ph_rows.specs.declared.items.Item.{Item}
-use Rattle.ph_rows.specs.declared.items.Item.TheVariants as item
-use Rattle.ph_rows.specs.declared.charges.Charge.{Charge}
-use Rattle.ph_rows.specs.declared.charges.ChargeStatus.TheVariants as status
-use Rattle.ph_rows.specs.declared.event_kinds.EventKind.TheVariants as event
-use Rattle.ph_rows.specs.declared.intents.CaptureMethod.{CaptureMethod}
-use Rattle.ph_rows.specs.declared.intents.CaptureMethod.TheVariants as capture_method
-use Rattle.ph_rows.specs.declared.intents.Intent.{Intent}
-use Rattle.ph_rows.specs.declared.transactions.Txn.{Txn}
+use Rattle.ph_items.specs.declared.items.Item.{Item}
+use Rattle.ph_items.specs.declared.items.Item.TheVariants as item
+use Rattle.ph_items.specs.declared.charges.Charge.{Charge}
+use Rattle.ph_items.specs.declared.charges.ChargeStatus.TheVariants as status
+use Rattle.ph_items.specs.declared.event_kinds.EventKind.TheVariants as event
+use Rattle.ph_items.specs.declared.intents.CaptureMethod.{CaptureMethod}
+use Rattle.ph_items.specs.declared.intents.CaptureMethod.TheVariants as capture_method
+use Rattle.ph_items.specs.declared.intents.Intent.{Intent}
+use Rattle.ph_items.specs.declared.transactions.Txn.{Txn}
 use Rattle.ph_rows.specs.Batches.{BatchState, last_place, with_row, with_announced}
-use Rattle.ph_rows.specs.Items.{charge_in}
+use Rattle.ph_items.specs.Items.{charge_in}
 use Rattle.ph_rows.specs.Rows.{row_at, later_version, latest_of}
-use Rattle.ph_rows.specs.Sound.{HasSums, HasSumsAt, HaveSums, IsSound}
-use Rattle.ph_rows.specs.Transactions.{captured_by, captured_of, refunded_of}
+use Rattle.ph_facts.specs.Sound.{HasSums, HasSumsAt, HaveSums, IsSound}
+use Rattle.ph_facts.specs.Amounts.{captured_by, captured_of, refunded_of}
 use Rattle.ph_rows.specs.Views.{ViewState}
-use Rattle.ph_rows.proofs.ChargeLemmas.{captured_of-append, captured_of-apart, captured_of-later, refunded_of-append, refunded_of-apart, refunded_of-later, neither_part, sums_known, sums_of_others, sums_stay, touches}
-use Rattle.ph_rows.proofs.SoundLemmas.{latest_of_sound, row_at_within}
+use Rattle.ph_facts.proofs.ChargeLemmas.{captured_of-append, captured_of-apart, captured_of-later, refunded_of-append, refunded_of-apart, refunded_of-later, sums_known, sums_of_others, sums_stay, touches}
+use Rattle.ph_rows.proofs.RowLemmas.{neither_part, row_at_within}
+use Rattle.ph_facts.proofs.SoundLemmas.{latest_of_sound}
 use Rattle.ph_charges.specs.Approvals.{approval_of, charge_number, decline_of, with_approved}
 use Rattle.ph_charges.specs.Captures.{capture_of, with_capture_in, with_capture_of}
 use Rattle.ph_charges.specs.Charges.{captured_charge, new_charge, next_capture, with_captured}

@@ -4,14 +4,14 @@ use Rattle.ph_base.specs.declared.acquirer.Method.{Method}
 use Rattle.ph_base.specs.declared.acquirer.Method.TheVariants as method
 use Rattle.ph_money.specs.Fees.{fee_of}
 use Rattle.ph_rows.specs.declared.rows.Row.{Row}
-use Rattle.ph_rows.specs.declared.charges.Charge.{Charge}
-use Rattle.ph_rows.specs.declared.items.Item.TheVariants as item
-use Rattle.ph_rows.specs.declared.payment_methods.PaymentMethod.{PaymentMethod}
-use Rattle.ph_rows.specs.declared.transactions.Txn.{Txn}
-use Rattle.ph_rows.specs.declared.transactions.TxnSource.TheVariants as source
-use Rattle.ph_rows.specs.declared.transactions.TxnType.TheVariants as sort
+use Rattle.ph_items.specs.declared.charges.Charge.{Charge}
+use Rattle.ph_items.specs.declared.items.Item.TheVariants as item
+use Rattle.ph_items.specs.declared.payment_methods.PaymentMethod.{PaymentMethod}
+use Rattle.ph_items.specs.declared.transactions.Txn.{Txn}
+use Rattle.ph_items.specs.declared.transactions.TxnSource.TheVariants as source
+use Rattle.ph_items.specs.declared.transactions.TxnType.TheVariants as sort
 use Rattle.ph_rows.specs.Batches.{BatchState, last_place, version_with, with_row}
-use Rattle.ph_rows.specs.Items.{charge_in}
+use Rattle.ph_items.specs.Items.{charge_in}
 
 -- how long what is captured is pending: two days, in seconds
 abbrev pub two_days : ℕ

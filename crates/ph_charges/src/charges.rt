@@ -4,8 +4,9 @@ ghost use Rattle.ph_charges.specs.Charges.{new_charge, with_captured};
 
 use crate::splits::{add_split, available_from};
 use ph_base::NoMemory;
+use ph_items::{Capture, Charge, ChargeStatus, Intent, Item, copy_method, copy_text};
 use ph_money::Amount;
-use ph_rows::{Batch, Capture, Charge, ChargeStatus, Intent, Item, copy_method, copy_text};
+use ph_rows::Batch;
 use std::alloc::Global;
 
 /// The charge of a payment intent on which the acquirer ruled, with a number: nothing of it is captured yet.

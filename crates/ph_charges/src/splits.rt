@@ -3,8 +3,9 @@ ghost use Rattle.std.specs.Prelude.{◌≡◌, OnOk};
 ghost use Rattle.ph_charges.specs.Splits.{after_two_days, available_by, available_from, charge_txn, is_at_once, split_of, with_split};
 
 use ph_base::{Method, NoMemory};
+use ph_items::{Charge, Item, PaymentMethod, Txn, TxnSource, TxnType};
 use ph_money::{Amount, SignedAmount, fee};
-use ph_rows::{Batch, Charge, Item, PaymentMethod, Txn, TxnSource, TxnType, View, version_with};
+use ph_rows::{Batch, View, version_with};
 
 // How long what is captured is pending, in seconds.
 const TWO_DAYS: u64 = 172800;

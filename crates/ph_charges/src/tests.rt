@@ -1,10 +1,11 @@
 use super::{approve, capture, decline, split};
 use ph_base::{Bytes, Method, NoMemory};
-use ph_money::{Amount, Currency};
-use ph_rows::{
-    Batch, CaptureMethod, Charge, ChargeStatus, EventKind, Intent, IntentStatus, Item, ListView,
-    Metadata, PaymentMethod, Row, Txn, TxnSource, TxnType, View,
+use ph_items::{
+    CaptureMethod, Charge, ChargeStatus, EventKind, Intent, IntentStatus, Item, Metadata,
+    PaymentMethod, Txn, TxnSource, TxnType,
 };
+use ph_money::{Amount, Currency};
+use ph_rows::{Batch, ListView, Row, View};
 use std::alloc::Global;
 use std::process::Abort;
 use std::test::Fail;

@@ -5,30 +5,31 @@ use Rattle.std.specs.List.{list_all, list_any}
 use Rattle.std.specs.Str.{is_utf8}
 use Rattle.std.proofs.lemmas.Bool.{cond_both, eq-eqb, false≢true, ne_eqb}
 use Rattle.std.proofs.lemmas.List.{append-nil, length-append}
-use Rattle.ph_calls.specs.Keeps.{AddsSound, IsReady, KeepsSound, batch_after, no_texts}
-use Rattle.ph_calls.specs.Outcomes.{Refuses, Adds}
+use Rattle.ph_facts.specs.Keeps.{AddsSound, IsReady, KeepsSound, batch_after, no_texts}
+use Rattle.ph_facts.specs.Outcomes.{Refuses, Adds}
 use Rattle.ph_errors.specs.Table.{error_of, DisputeClosed}
 use Rattle.ph_rows.specs.declared.rows.Row.{Row}
-use Rattle.ph_rows.specs.declared.disputes.Dispute.{Dispute}
-use Rattle.ph_rows.specs.declared.disputes.DisputeStatus.{DisputeStatus}
-use Rattle.ph_rows.specs.declared.disputes.DisputeStatus.TheVariants as status
-use Rattle.ph_rows.specs.declared.event_kinds.EventKind.TheVariants as event
-use Rattle.ph_rows.specs.declared.items.Item.{Item}
-use Rattle.ph_rows.specs.declared.items.Item.TheVariants as item
+use Rattle.ph_items.specs.declared.disputes.Dispute.{Dispute}
+use Rattle.ph_items.specs.declared.disputes.DisputeStatus.{DisputeStatus}
+use Rattle.ph_items.specs.declared.disputes.DisputeStatus.TheVariants as status
+use Rattle.ph_items.specs.declared.event_kinds.EventKind.TheVariants as event
+use Rattle.ph_items.specs.declared.items.Item.{Item}
+use Rattle.ph_items.specs.declared.items.Item.TheVariants as item
 use Rattle.ph_rows.specs.Batches.{BatchState, last_place, next_row}
-use Rattle.ph_rows.specs.Entering.{IsToldBy, MayBeEntered}
-use Rattle.ph_rows.specs.Kinds.{kind_of}
-use Rattle.ph_rows.specs.Origins.{HasOrigin}
+use Rattle.ph_facts.specs.Entering.{IsToldBy, MayBeEntered}
+use Rattle.ph_items.specs.Kinds.{kind_of}
+use Rattle.ph_facts.specs.Origins.{HasOrigin}
 use Rattle.ph_rows.specs.Rows.{latest_of}
-use Rattle.ph_rows.specs.Sound.{AllMayFollow, IsInOrder, MayFollow, with_next}
-use Rattle.ph_rows.specs.Transactions.{given_move, moves_in, moves_of, taken_move}
+use Rattle.ph_facts.specs.Sound.{AllMayFollow, IsInOrder, MayFollow, with_next}
+use Rattle.ph_facts.specs.Amounts.{given_move, moves_in, moves_of, taken_move}
 use Rattle.ph_rows.specs.Views.{ViewState}
-use Rattle.ph_rows.specs.Weights.{texts_of}
-use Rattle.ph_rows.proofs.AmountLemmas.{latest_of-last, sums_beside}
-use Rattle.ph_rows.proofs.FollowLemmas.{first_follows, further_follows, origin_stands}
-use Rattle.ph_rows.proofs.HeldLemmas.{held_beside, is_version, latest_of-apart}
-use Rattle.ph_rows.proofs.MoveLemmas.{moves_of_version}
-use Rattle.ph_rows.proofs.SoundLemmas.{order_with, order_with_all, row_at-before, row_at_within}
+use Rattle.ph_items.specs.Weights.{texts_of}
+use Rattle.ph_rows.proofs.RowLemmas.{latest_of-last, is_version, latest_of-apart, row_at-before, row_at_within}
+use Rattle.ph_facts.proofs.AmountLemmas.{sums_beside}
+use Rattle.ph_facts.proofs.FollowLemmas.{first_follows, further_follows, origin_stands}
+use Rattle.ph_facts.proofs.HeldLemmas.{held_beside}
+use Rattle.ph_facts.proofs.MoveLemmas.{moves_of_version}
+use Rattle.ph_facts.proofs.SoundLemmas.{order_with, order_with_all}
 use Rattle.ph_disputes.specs.Answers.{answered_dispute, evidence_of, evidence_outcome, given_txn, verdict_on, with_evidence, with_verdict}
 use Rattle.ph_disputes.specs.Closing.{close_of, close_outcome, lost_dispute, with_closed, with_version}
 use Rattle.ph_disputes.specs.Finding.{if_open, is_closed}

@@ -4,13 +4,13 @@ use Rattle.std.proofs.Common.{◌≡◌, ℕ, ◌≤◌, inl, inr, Bool, true, f
 use Rattle.std.proofs.lemmas.Bool.{eqb-true}
 use Rattle.std.proofs.lemmas.List.Sums.{fold_push}
 use Rattle.ph_rows.specs.declared.rows.Row.{Row}
-use Rattle.ph_rows.specs.declared.charges.Charge.{Charge}
-use Rattle.ph_rows.specs.declared.items.Item.{Item}
-use Rattle.ph_rows.specs.declared.items.Item.TheVariants as item
-use Rattle.ph_rows.specs.Items.{charge_in}
+use Rattle.ph_items.specs.declared.charges.Charge.{Charge}
+use Rattle.ph_items.specs.declared.items.Item.{Item}
+use Rattle.ph_items.specs.declared.items.Item.TheVariants as item
+use Rattle.ph_items.specs.Items.{charge_in}
 use Rattle.ph_rows.specs.Rows.{later_version, latest_of}
-use Rattle.ph_rows.specs.Sound.{AreHeld, IsHeldBy, charge_of}
-use Rattle.ph_rows.proofs.SoundLemmas.{picked}
+use Rattle.ph_facts.specs.Sound.{AreHeld, IsHeldBy, charge_of}
+use Rattle.ph_rows.proofs.RowLemmas.{picked}
 
 -- a version of a charge holds what the version before held: it is of the same payment intent, and as much was authorised
 -- and captured

@@ -9,27 +9,29 @@ use Rattle.std.proofs.lemmas.Int.{ints}
 use Rattle.std.proofs.lemmas.List.{append_assoc, length-append}
 use Rattle.ph_rows.specs.declared.rows.Row.{Row}
 use Rattle.ph_rows.specs.declared.batches.Announced.{Announced}
-use Rattle.ph_rows.specs.declared.charges.Charge.{Charge}
-use Rattle.ph_rows.specs.declared.event_kinds.EventKind.TheVariants as event
-use Rattle.ph_rows.specs.declared.items.Item.{Item}
-use Rattle.ph_rows.specs.declared.items.Item.TheVariants as item
+use Rattle.ph_items.specs.declared.charges.Charge.{Charge}
+use Rattle.ph_items.specs.declared.event_kinds.EventKind.TheVariants as event
+use Rattle.ph_items.specs.declared.items.Item.{Item}
+use Rattle.ph_items.specs.declared.items.Item.TheVariants as item
 use Rattle.ph_rows.specs.Batches.{BatchState, last_place, next_row, version_with}
-use Rattle.ph_rows.specs.Entering.{AreTold, IsToldBy, MayBeEntered}
-use Rattle.ph_rows.specs.Items.{charge_in}
-use Rattle.ph_rows.specs.Kinds.{kind_of}
-use Rattle.ph_rows.specs.Origins.{HasOrigin}
+use Rattle.ph_facts.specs.Entering.{AreTold, IsToldBy, MayBeEntered}
+use Rattle.ph_items.specs.Items.{charge_in}
+use Rattle.ph_items.specs.Kinds.{kind_of}
+use Rattle.ph_facts.specs.Origins.{HasOrigin}
 use Rattle.ph_rows.specs.Rows.{row_at, later_version, latest_of}
-use Rattle.ph_rows.specs.Sound.{AllMayFollow, AreHeld, HasSums, HaveMoves, HaveSums, IsInOrder, IsSound, MayFollow, charge_of, with_next}
-use Rattle.ph_rows.specs.Transactions.{dispute_fee, moves_of, taken_move, Move}
+use Rattle.ph_facts.specs.Sound.{AllMayFollow, AreHeld, HasSums, HaveMoves, HaveSums, IsInOrder, IsSound, MayFollow, charge_of, with_next}
+use Rattle.ph_items.specs.Disputes.{dispute_fee}
+use Rattle.ph_facts.specs.Amounts.{moves_of, taken_move, Move}
 use Rattle.ph_rows.specs.Views.{ViewState}
-use Rattle.ph_rows.specs.Weights.{texts_of}
-use Rattle.ph_rows.proofs.AmountLemmas.{KeepsAmounts, kept_sums, latest_of-last}
-use Rattle.ph_rows.proofs.EnterLemmas.{told_with}
-use Rattle.ph_rows.proofs.FollowLemmas.{first_follows, follow_both, further_follows, origin_stands}
-use Rattle.ph_rows.proofs.HeldLemmas.{held_beside, is_version, latest_from, latest_of-apart}
-use Rattle.ph_rows.proofs.MoveLemmas.{moves_of-later, moves_of_version}
-use Rattle.ph_rows.proofs.PresentLemmas.{IsCharge, charge_found}
-use Rattle.ph_rows.proofs.SoundLemmas.{order_with, order_with_all, row_at-before, row_at-next, row_at_within}
+use Rattle.ph_items.specs.Weights.{texts_of}
+use Rattle.ph_facts.proofs.AmountLemmas.{KeepsAmounts, kept_sums}
+use Rattle.ph_rows.proofs.RowLemmas.{latest_of-last, is_version, latest_from, latest_of-apart, row_at-before, row_at-next, row_at_within}
+use Rattle.ph_facts.proofs.EnterLemmas.{told_with}
+use Rattle.ph_facts.proofs.FollowLemmas.{first_follows, follow_both, further_follows, origin_stands}
+use Rattle.ph_facts.proofs.HeldLemmas.{held_beside}
+use Rattle.ph_facts.proofs.MoveLemmas.{moves_of-later, moves_of_version}
+use Rattle.ph_facts.proofs.PresentLemmas.{IsCharge, charge_found}
+use Rattle.ph_facts.proofs.SoundLemmas.{order_with, order_with_all}
 use Rattle.ph_disputes.specs.Due.{due_charge, open_due_of, opening_due}
 use Rattle.ph_disputes.specs.Laws.{OpeningKeepsSound}
 use Rattle.ph_disputes.specs.Opening.{disputed_charge, new_dispute, open_of, opening_in, opening_of, opening_rows, taken_txn, with_dispute, with_taken}

@@ -1,17 +1,17 @@
 -- The opening of a dispute: the customer's bank asks for a charge back.
 use Rattle.std.specs.Prelude.{ℕ, ◌+◌, pos, neg_ℤ, List, Option, None, Some}
 use Rattle.ph_rows.specs.declared.rows.Row.{Row}
-use Rattle.ph_rows.specs.declared.charges.Charge.{Charge}
-use Rattle.ph_rows.specs.declared.disputes.Dispute.{Dispute}
-use Rattle.ph_rows.specs.declared.disputes.DisputeStatus.TheVariants as status
-use Rattle.ph_rows.specs.declared.event_kinds.EventKind.TheVariants as event
-use Rattle.ph_rows.specs.declared.items.Item.TheVariants as item
-use Rattle.ph_rows.specs.declared.transactions.Txn.{Txn}
-use Rattle.ph_rows.specs.declared.transactions.TxnSource.TheVariants as source
-use Rattle.ph_rows.specs.declared.transactions.TxnType.TheVariants as sort
+use Rattle.ph_items.specs.declared.charges.Charge.{Charge}
+use Rattle.ph_items.specs.declared.disputes.Dispute.{Dispute}
+use Rattle.ph_items.specs.declared.disputes.DisputeStatus.TheVariants as status
+use Rattle.ph_items.specs.declared.event_kinds.EventKind.TheVariants as event
+use Rattle.ph_items.specs.declared.items.Item.TheVariants as item
+use Rattle.ph_items.specs.declared.transactions.Txn.{Txn}
+use Rattle.ph_items.specs.declared.transactions.TxnSource.TheVariants as source
+use Rattle.ph_items.specs.declared.transactions.TxnType.TheVariants as sort
 use Rattle.ph_rows.specs.Batches.{BatchState, last_place, version_with, with_row, with_announced}
-use Rattle.ph_rows.specs.Items.{charge_in}
-use Rattle.ph_rows.specs.Transactions.{dispute_fee}
+use Rattle.ph_items.specs.Items.{charge_in}
+use Rattle.ph_items.specs.Disputes.{dispute_fee}
 
 -- the dispute of a charge: all that was captured of it, and no answer yet
 abbrev pub new_dispute : ℕ → Charge → Dispute

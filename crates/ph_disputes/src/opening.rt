@@ -4,11 +4,9 @@ ghost use Rattle.ph_rows.specs.Batches.{last_place};
 ghost use Rattle.ph_disputes.specs.Opening.{disputed_charge, new_dispute, open_of, opened_number, opening_rows, taken_txn, with_disputed, with_taken};
 
 use ph_base::NoMemory;
+use ph_items::{Charge, Dispute, DisputeStatus, EventKind, Item, Txn, TxnSource, TxnType};
 use ph_money::SignedAmount;
-use ph_rows::{
-    Batch, Charge, Dispute, DisputeStatus, EventKind, Item, Txn, TxnSource, TxnType, View,
-    version_with,
-};
+use ph_rows::{Batch, View, version_with};
 use std::alloc::Global;
 
 // The fee of a dispute, in minor units of its currency.

@@ -7,22 +7,22 @@ use Rattle.ph_charges.specs.Charges.{with_captured}
 use Rattle.ph_charges.proofs.EntryLemmas.{capture_underway}
 use Rattle.ph_charges.proofs.SumLemmas as sums
 use Rattle.ph_rows.specs.declared.rows.Row.{Row}
-use Rattle.ph_rows.specs.declared.charges.Charge.{Charge}
-use Rattle.ph_rows.specs.declared.event_kinds.EventKind.TheVariants as event
-use Rattle.ph_rows.specs.declared.intents.Intent.{Intent}
-use Rattle.ph_rows.specs.declared.intents.IntentStatus.{IntentStatus}
-use Rattle.ph_rows.specs.declared.intents.IntentStatus.TheVariants as status
-use Rattle.ph_rows.specs.declared.items.Item.TheVariants as item
+use Rattle.ph_items.specs.declared.charges.Charge.{Charge}
+use Rattle.ph_items.specs.declared.event_kinds.EventKind.TheVariants as event
+use Rattle.ph_items.specs.declared.intents.Intent.{Intent}
+use Rattle.ph_items.specs.declared.intents.IntentStatus.{IntentStatus}
+use Rattle.ph_items.specs.declared.intents.IntentStatus.TheVariants as status
+use Rattle.ph_items.specs.declared.items.Item.TheVariants as item
 use Rattle.ph_rows.specs.Batches.{BatchState, next_row, with_row, with_announced}
-use Rattle.ph_rows.specs.Entering.{MayBeEntered}
-use Rattle.ph_rows.specs.Items.{charge_in}
-use Rattle.ph_rows.specs.Kinds.{kind_of}
+use Rattle.ph_facts.specs.Entering.{MayBeEntered}
+use Rattle.ph_items.specs.Items.{charge_in}
+use Rattle.ph_items.specs.Kinds.{kind_of}
 use Rattle.ph_rows.specs.Rows.{latest_of}
-use Rattle.ph_rows.specs.Sound.{HaveSums, Holds, IsHeldBy, charge_of}
+use Rattle.ph_facts.specs.Sound.{HaveSums, Holds, IsHeldBy, charge_of}
 use Rattle.ph_rows.specs.Views.{ViewState}
-use Rattle.ph_rows.proofs.ChargeLemmas.{second_fails}
-use Rattle.ph_rows.proofs.HeldLemmas.{AllLeave, another_is_apart, held_known}
-use Rattle.ph_rows.proofs.UnderwayLemmas.{IsUnderway, underway_further, underway_told}
+use Rattle.ph_rows.proofs.RowLemmas.{second_fails}
+use Rattle.ph_facts.proofs.HeldLemmas.{AllLeave, another_is_apart, held_known}
+use Rattle.ph_facts.proofs.UnderwayLemmas.{IsUnderway, underway_further, underway_told}
 use Rattle.ph_intents.specs.Capture.{capture_of, capture_outcome, capture_amount, received_intent, with_charge_captured}
 use Rattle.ph_intents.specs.Keeps.{AddsSound, IsReady, KeepsSound, batch_after, no_texts}
 use Rattle.ph_intents.specs.Refusals.{invalid_value}

@@ -9,26 +9,26 @@ use Rattle.ph_base.specs.declared.acquirer.Method.{Method}
 use Rattle.ph_base.specs.declared.ids.Kind.TheVariants as kind
 use Rattle.ph_rows.specs.declared.rows.Row.{Row}
 use Rattle.ph_rows.specs.declared.batches.Announced.{Announced}
-use Rattle.ph_rows.specs.declared.event_kinds.EventKind.{EventKind}
-use Rattle.ph_rows.specs.declared.event_kinds.EventKind.TheVariants as event
-use Rattle.ph_rows.specs.declared.intents.Intent.{Intent}
-use Rattle.ph_rows.specs.declared.intents.IntentStatus.TheVariants as status
-use Rattle.ph_rows.specs.declared.items.Item.{Item}
-use Rattle.ph_rows.specs.declared.items.Item.TheVariants as item
+use Rattle.ph_items.specs.declared.event_kinds.EventKind.{EventKind}
+use Rattle.ph_items.specs.declared.event_kinds.EventKind.TheVariants as event
+use Rattle.ph_items.specs.declared.intents.Intent.{Intent}
+use Rattle.ph_items.specs.declared.intents.IntentStatus.TheVariants as status
+use Rattle.ph_items.specs.declared.items.Item.{Item}
+use Rattle.ph_items.specs.declared.items.Item.TheVariants as item
 use Rattle.ph_rows.specs.Batches.{BatchState, last_place, next_row, with_row}
-use Rattle.ph_rows.specs.Entering.{MayBeEntered}
-use Rattle.ph_rows.specs.Kinds.{kind_of}
+use Rattle.ph_facts.specs.Entering.{MayBeEntered}
+use Rattle.ph_items.specs.Kinds.{kind_of}
 use Rattle.ph_rows.specs.Rows.{later_version, latest_of}
-use Rattle.ph_rows.specs.Sound.{HaveSums, IsHeldAt, IsHeldBy, IsSound, charge_of}
+use Rattle.ph_facts.specs.Sound.{HaveSums, IsHeldAt, IsHeldBy, IsSound, charge_of}
 use Rattle.ph_rows.specs.Views.{ViewState}
-use Rattle.ph_rows.specs.Weights.{texts_of}
-use Rattle.ph_rows.specs.Words.{subject_of}
-use Rattle.ph_rows.proofs.AmountLemmas.{latest_of-last}
-use Rattle.ph_rows.proofs.ChargeLemmas.{sums_stay, touches}
-use Rattle.ph_rows.proofs.HeldLemmas.{AllLeave, held_known, held_of_others}
-use Rattle.ph_rows.proofs.MoveLemmas.{is_of_dispute, moves_stay}
-use Rattle.ph_rows.proofs.SoundLemmas.{order_with_all}
-use Rattle.ph_rows.proofs.UnderwayLemmas.{IsUnderway, underway_first, underway_told}
+use Rattle.ph_items.specs.Weights.{texts_of}
+use Rattle.ph_items.specs.Words.{subject_of}
+use Rattle.ph_rows.proofs.RowLemmas.{latest_of-last}
+use Rattle.ph_facts.proofs.ChargeLemmas.{sums_stay, touches}
+use Rattle.ph_facts.proofs.HeldLemmas.{AllLeave, held_known, held_of_others}
+use Rattle.ph_facts.proofs.MoveLemmas.{is_of_dispute, moves_stay}
+use Rattle.ph_facts.proofs.SoundLemmas.{order_with_all}
+use Rattle.ph_facts.proofs.UnderwayLemmas.{IsUnderway, underway_first, underway_told}
 use Rattle.ph_intents.specs.Attempts.{attempted, new_attempt, with_attempt}
 use Rattle.ph_intents.specs.Create.{created_with}
 use Rattle.ph_intents.specs.Keeps.{AddsSound, AreUtf8, IsReady, batch_after}

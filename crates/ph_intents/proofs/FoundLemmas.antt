@@ -3,26 +3,26 @@ use Rattle.std.specs.Prelude.{option_and_then}
 use Rattle.std.proofs.Common.{◌≡◌, ℕ, ◌≤◌, List, Option, None, Some, length, refl, sym, ap, subst, arith}
 use Rattle.ph_base.specs.declared.acquirer.Method.{Method}
 use Rattle.ph_base.specs.declared.ids.Kind.TheVariants as kind
-use Rattle.ph_calls.specs.Outcomes.{Outcome}
+use Rattle.ph_facts.specs.Outcomes.{Outcome}
 use Rattle.ph_rows.specs.declared.rows.Row.{Row}
-use Rattle.ph_rows.specs.declared.charges.Charge.{Charge}
-use Rattle.ph_rows.specs.declared.event_kinds.EventKind.{EventKind}
-use Rattle.ph_rows.specs.declared.intents.Intent.{Intent}
-use Rattle.ph_rows.specs.declared.intents.IntentStatus.{IntentStatus}
-use Rattle.ph_rows.specs.declared.intents.IntentStatus.TheVariants as status
-use Rattle.ph_rows.specs.declared.items.Item.{Item}
-use Rattle.ph_rows.specs.declared.items.Item.TheVariants as item
-use Rattle.ph_rows.specs.Items.{intent_in}
-use Rattle.ph_rows.specs.Kinds.{kind_of}
+use Rattle.ph_items.specs.declared.charges.Charge.{Charge}
+use Rattle.ph_items.specs.declared.event_kinds.EventKind.{EventKind}
+use Rattle.ph_items.specs.declared.intents.Intent.{Intent}
+use Rattle.ph_items.specs.declared.intents.IntentStatus.{IntentStatus}
+use Rattle.ph_items.specs.declared.intents.IntentStatus.TheVariants as status
+use Rattle.ph_items.specs.declared.items.Item.{Item}
+use Rattle.ph_items.specs.declared.items.Item.TheVariants as item
+use Rattle.ph_items.specs.Items.{intent_in}
+use Rattle.ph_items.specs.Kinds.{kind_of}
 use Rattle.ph_rows.specs.Names.{owned_named}
 use Rattle.ph_rows.specs.Rows.{row_at, latest_of}
-use Rattle.ph_rows.specs.Sound.{IsHeldBy, IsSound, charge_of}
+use Rattle.ph_facts.specs.Sound.{IsHeldBy, IsSound, charge_of}
 use Rattle.ph_rows.specs.Views.{ViewState}
-use Rattle.ph_rows.specs.Weights.{texts_of}
-use Rattle.ph_rows.specs.Words.{subject_of}
-use Rattle.ph_rows.proofs.FoundLemmas.{owned_found}
-use Rattle.ph_rows.proofs.SoundLemmas.{row_at_within}
-use Rattle.ph_rows.proofs.UnderwayLemmas.{IsUnderway, underway_further}
+use Rattle.ph_items.specs.Weights.{texts_of}
+use Rattle.ph_items.specs.Words.{subject_of}
+use Rattle.ph_facts.proofs.FoundLemmas.{owned_found}
+use Rattle.ph_rows.proofs.RowLemmas.{row_at_within}
+use Rattle.ph_facts.proofs.UnderwayLemmas.{IsUnderway, underway_further}
 use Rattle.ph_intents.specs.Attempts.{attempted}
 use Rattle.ph_intents.specs.Keeps.{AddsSound, AreUtf8, IsReady, batch_after}
 use Rattle.ph_intents.specs.Refusals.{made_of, made_of_row, made_at, if_allowed}

@@ -6,17 +6,17 @@ use Rattle.std.proofs.lemmas.Bool.{ne_eqb}
 use Rattle.std.proofs.lemmas.List.{append_assoc}
 use Rattle.ph_base.specs.declared.ids.Kind.TheVariants as kind
 use Rattle.ph_rows.specs.declared.rows.Row.{Row}
-use Rattle.ph_rows.specs.declared.charges.Charge.{Charge}
-use Rattle.ph_rows.specs.declared.items.Item.{Item}
-use Rattle.ph_rows.specs.declared.items.Item.TheVariants as item
-use Rattle.ph_rows.specs.declared.intents.Intent.{Intent}
-use Rattle.ph_rows.specs.Items.{charge_in}
-use Rattle.ph_rows.specs.Kinds.{kind_of}
+use Rattle.ph_items.specs.declared.charges.Charge.{Charge}
+use Rattle.ph_items.specs.declared.items.Item.{Item}
+use Rattle.ph_items.specs.declared.items.Item.TheVariants as item
+use Rattle.ph_items.specs.declared.intents.Intent.{Intent}
+use Rattle.ph_items.specs.Items.{charge_in}
+use Rattle.ph_items.specs.Kinds.{kind_of}
 use Rattle.ph_rows.specs.Rows.{row_at, latest_of}
-use Rattle.ph_rows.specs.Sound.{AllMayFollow, HasBegun, IsHeldBy, IsInOrder, charge_of, with_next}
+use Rattle.ph_facts.specs.Sound.{AllMayFollow, HasBegun, IsHeldBy, IsInOrder, charge_of, with_next}
 use Rattle.ph_rows.specs.Views.{ViewState}
-use Rattle.ph_rows.proofs.HeldLemmas.{is_version, latest_of-apart}
-use Rattle.ph_rows.proofs.SoundLemmas.{latest_of_order, row_at-before}
+use Rattle.ph_rows.proofs.RowLemmas.{is_version, latest_of-apart, row_at-before}
+use Rattle.ph_facts.proofs.SoundLemmas.{latest_of_order}
 
 -- something holds of each row
 abbrev pub Each : (Row → Type 0) → List Row → Type 0

@@ -3,23 +3,23 @@ use Rattle.std.proofs.Common.{◌≡◌, ℕ, ◌+◌, cond, nat_lt, List, [], O
 use Rattle.std.proofs.lemmas.Bool.{cond_both}
 use Rattle.std.specs.Option.{option_or}
 use Rattle.ph_base.specs.declared.acquirer.Method.TheVariants as method
-use Rattle.ph_calls.specs.Outcomes.{Refuses, Adds}
+use Rattle.ph_facts.specs.Outcomes.{Refuses, Adds}
 use Rattle.ph_calls.specs.declared.call.CreateIntent.{CreateIntent}
 use Rattle.ph_calls.specs.declared.call.UpdateIntent.{UpdateIntent}
 use Rattle.ph_errors.specs.Table.{error_of, AmountTooSmall}
 use Rattle.ph_money.specs.Currencies.{terms_of}
 use Rattle.ph_rows.specs.declared.rows.Row.{Row}
-use Rattle.ph_rows.specs.declared.event_kinds.EventKind.TheVariants as event
-use Rattle.ph_rows.specs.declared.intents.Intent.{Intent}
-use Rattle.ph_rows.specs.declared.intents.IntentStatus.{IntentStatus}
-use Rattle.ph_rows.specs.declared.intents.IntentStatus.TheVariants as status
-use Rattle.ph_rows.specs.declared.intents.PaymentError.{PaymentError}
-use Rattle.ph_rows.specs.declared.intents.PaymentError.TheVariants as payment_error
-use Rattle.ph_rows.specs.declared.items.Item.TheVariants as item
-use Rattle.ph_rows.specs.declared.payment_methods.PaymentMethod.{PaymentMethod}
+use Rattle.ph_items.specs.declared.event_kinds.EventKind.TheVariants as event
+use Rattle.ph_items.specs.declared.intents.Intent.{Intent}
+use Rattle.ph_items.specs.declared.intents.IntentStatus.{IntentStatus}
+use Rattle.ph_items.specs.declared.intents.IntentStatus.TheVariants as status
+use Rattle.ph_items.specs.declared.intents.PaymentError.{PaymentError}
+use Rattle.ph_items.specs.declared.intents.PaymentError.TheVariants as payment_error
+use Rattle.ph_items.specs.declared.items.Item.TheVariants as item
+use Rattle.ph_items.specs.declared.payment_methods.PaymentMethod.{PaymentMethod}
 use Rattle.ph_rows.specs.Batches.{last_place}
-use Rattle.ph_rows.proofs.UnderwayLemmas.{IsUnderway}
-use Rattle.ph_rows.specs.Weights.{with_text, method_text, metadata_texts, texts_of}
+use Rattle.ph_facts.proofs.UnderwayLemmas.{IsUnderway}
+use Rattle.ph_items.specs.Weights.{with_text, method_text, metadata_texts, texts_of}
 use Rattle.ph_intents.specs.Attempts.{attempted}
 use Rattle.ph_intents.specs.Authenticate.{authenticate_of, authenticate_outcome, authenticated_intent, fail_of, fail_authentication_outcome, failed_intent}
 use Rattle.ph_intents.specs.Cancel.{cancel_of, cancel_outcome, canceled_intent}

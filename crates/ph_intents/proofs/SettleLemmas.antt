@@ -11,32 +11,33 @@ use Rattle.ph_charges.specs.Charges.{new_charge, with_captured}
 use Rattle.ph_charges.proofs.EntryLemmas.{approval_underway, decline_underway}
 use Rattle.ph_charges.proofs.SumLemmas.{approval_keeps, decline_keeps}
 use Rattle.ph_rows.specs.declared.rows.Row.{Row}
-use Rattle.ph_rows.specs.declared.attempts.Attempt.{Attempt}
-use Rattle.ph_rows.specs.declared.charges.Charge.{Charge}
-use Rattle.ph_rows.specs.declared.charges.ChargeStatus.TheVariants as charge_status
-use Rattle.ph_rows.specs.declared.event_kinds.EventKind.{EventKind}
-use Rattle.ph_rows.specs.declared.event_kinds.EventKind.TheVariants as event
-use Rattle.ph_rows.specs.declared.intents.CaptureMethod.{CaptureMethod}
-use Rattle.ph_rows.specs.declared.intents.CaptureMethod.TheVariants as capture_method
-use Rattle.ph_rows.specs.declared.intents.Intent.{Intent}
-use Rattle.ph_rows.specs.declared.intents.IntentStatus.TheVariants as status
-use Rattle.ph_rows.specs.declared.intents.PaymentError.TheVariants as payment_error
-use Rattle.ph_rows.specs.declared.items.Item.{Item}
-use Rattle.ph_rows.specs.declared.items.Item.TheVariants as item
+use Rattle.ph_items.specs.declared.attempts.Attempt.{Attempt}
+use Rattle.ph_items.specs.declared.charges.Charge.{Charge}
+use Rattle.ph_items.specs.declared.charges.ChargeStatus.TheVariants as charge_status
+use Rattle.ph_items.specs.declared.event_kinds.EventKind.{EventKind}
+use Rattle.ph_items.specs.declared.event_kinds.EventKind.TheVariants as event
+use Rattle.ph_items.specs.declared.intents.CaptureMethod.{CaptureMethod}
+use Rattle.ph_items.specs.declared.intents.CaptureMethod.TheVariants as capture_method
+use Rattle.ph_items.specs.declared.intents.Intent.{Intent}
+use Rattle.ph_items.specs.declared.intents.IntentStatus.TheVariants as status
+use Rattle.ph_items.specs.declared.intents.PaymentError.TheVariants as payment_error
+use Rattle.ph_items.specs.declared.items.Item.{Item}
+use Rattle.ph_items.specs.declared.items.Item.TheVariants as item
 use Rattle.ph_rows.specs.Batches.{BatchState, next_row, with_row, with_announced}
-use Rattle.ph_rows.specs.Entering.{MayBeEntered}
-use Rattle.ph_rows.specs.Items.{attempt_in, charge_in, intent_in}
-use Rattle.ph_rows.specs.Kinds.{kind_of}
+use Rattle.ph_facts.specs.Entering.{MayBeEntered}
+use Rattle.ph_items.specs.Items.{attempt_in, charge_in, intent_in}
+use Rattle.ph_items.specs.Kinds.{kind_of}
 use Rattle.ph_rows.specs.Rows.{row_at, latest_of}
-use Rattle.ph_rows.specs.Sound.{AreHeld, HaveMoves, HaveSums, IsHeldBy, IsSound, charge_of}
+use Rattle.ph_facts.specs.Sound.{AreHeld, HaveMoves, HaveSums, IsHeldBy, IsSound, charge_of}
 use Rattle.ph_rows.specs.Views.{ViewState}
-use Rattle.ph_rows.specs.Weights.{texts_of}
-use Rattle.ph_rows.specs.Words.{subject_of}
-use Rattle.ph_rows.proofs.ChargeLemmas.{neither_part, sums_stay, touches}
-use Rattle.ph_rows.proofs.HeldLemmas.{AllLeave, IsApart, Leaves, held_known, later_is_loose}
-use Rattle.ph_rows.proofs.MoveLemmas.{is_of_dispute}
-use Rattle.ph_rows.proofs.SoundLemmas.{latest_of_sound, row_at_within}
-use Rattle.ph_rows.proofs.UnderwayLemmas.{IsUnderway, underway_further, underway_told}
+use Rattle.ph_items.specs.Weights.{texts_of}
+use Rattle.ph_items.specs.Words.{subject_of}
+use Rattle.ph_rows.proofs.RowLemmas.{neither_part, row_at_within}
+use Rattle.ph_facts.proofs.ChargeLemmas.{sums_stay, touches}
+use Rattle.ph_facts.proofs.HeldLemmas.{AllLeave, IsApart, Leaves, held_known, later_is_loose}
+use Rattle.ph_facts.proofs.MoveLemmas.{is_of_dispute}
+use Rattle.ph_facts.proofs.SoundLemmas.{latest_of_sound}
+use Rattle.ph_facts.proofs.UnderwayLemmas.{IsUnderway, underway_further, underway_told}
 use Rattle.ph_intents.specs.Keeps.{AddsSound, AreUtf8, IsReady, SettleKeepsSound, batch_after}
 use Rattle.ph_intents.specs.Settle.{settled_attempt, approved_intent, approved_event, settled_intent, settle_both, settle_intent, settle_attempt, settle_row, with_latest_charge, with_settled}
 use Rattle.ph_intents.specs.Versions.{with_told}

@@ -3,7 +3,7 @@
 use crate::*;
 use ph_base::{Method, NoMemory};
 use ph_form::{Form, FormFault, read_form};
-use ph_rows::{CancellationReason, CaptureMethod, RefundReason};
+use ph_items::{CancellationReason, CaptureMethod, RefundReason};
 use std::alloc::Global;
 use std::process::Abort;
 use std::test::Fail;

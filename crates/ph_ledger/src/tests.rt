@@ -1,10 +1,11 @@
 ghost use Rattle.std.specs.Prelude.{◌≡◌, ◌<◌, IsSome, OnOk};
-ghost use Rattle.ph_rows.specs.Items.{txn_in};
+ghost use Rattle.ph_items.specs.Items.{txn_in};
 
 use super::Ledger;
 use ph_base::NoMemory;
+use ph_items::{Item, Txn, TxnSource, TxnType};
 use ph_money::{Amount, Currency, SignedAmount};
-use ph_rows::{Item, Row, Txn, TxnSource, TxnType};
+use ph_rows::Row;
 use std::test::Fail;
 
 const OPENED: u64 = 1700000000;

@@ -5,30 +5,31 @@ use Rattle.std.proofs.lemmas.List.{length-append}
 use Rattle.std.specs.List.{list_all}
 use Rattle.std.specs.Str.{is_utf8}
 use Rattle.ph_calls.specs.declared.call.CreateRefund.{CreateRefund}
-use Rattle.ph_calls.specs.Keeps.{AreUtf8, IsReady, batch_after}
+use Rattle.ph_facts.specs.Keeps.{AreUtf8, IsReady, batch_after}
 use Rattle.ph_kinds.proofs.KeptLemmas.{first_kept}
 use Rattle.ph_rows.specs.declared.rows.Row.{Row}
-use Rattle.ph_rows.specs.declared.charges.Capture.{Capture}
-use Rattle.ph_rows.specs.declared.charges.Charge.{Charge}
-use Rattle.ph_rows.specs.declared.event_kinds.EventKind.TheVariants as event
-use Rattle.ph_rows.specs.declared.items.Item.{Item}
-use Rattle.ph_rows.specs.declared.items.Item.TheVariants as item
-use Rattle.ph_rows.specs.declared.refunds.Refund.{Refund}
+use Rattle.ph_items.specs.declared.charges.Capture.{Capture}
+use Rattle.ph_items.specs.declared.charges.Charge.{Charge}
+use Rattle.ph_items.specs.declared.event_kinds.EventKind.TheVariants as event
+use Rattle.ph_items.specs.declared.items.Item.{Item}
+use Rattle.ph_items.specs.declared.items.Item.TheVariants as item
+use Rattle.ph_items.specs.declared.refunds.Refund.{Refund}
 use Rattle.ph_rows.specs.Batches.{BatchState, last_place, next_row}
-use Rattle.ph_rows.specs.Entering.{IsToldBy, MayBeEntered}
-use Rattle.ph_rows.specs.Items.{charge_in}
-use Rattle.ph_rows.specs.Kinds.{kind_of}
-use Rattle.ph_rows.specs.Origins.{HasOrigin}
+use Rattle.ph_facts.specs.Entering.{IsToldBy, MayBeEntered}
+use Rattle.ph_items.specs.Items.{charge_in}
+use Rattle.ph_items.specs.Kinds.{kind_of}
+use Rattle.ph_facts.specs.Origins.{HasOrigin}
 use Rattle.ph_rows.specs.Rows.{row_at}
-use Rattle.ph_rows.specs.Sound.{AllMayFollow, HasSums, IsInOrder, MayFollow, with_next}
+use Rattle.ph_facts.specs.Sound.{AllMayFollow, HasSums, IsInOrder, MayFollow, with_next}
 use Rattle.ph_rows.specs.Views.{ViewState}
-use Rattle.ph_rows.specs.Weights.{texts_of}
-use Rattle.ph_rows.proofs.AmountLemmas.{IsRefunded, latest_of-last, refunded_sums}
-use Rattle.ph_rows.proofs.FollowLemmas.{first_follows, further_follows, origin_stands}
-use Rattle.ph_rows.proofs.HeldLemmas.{IsLoose, captured_is_loose, held_beside}
-use Rattle.ph_rows.proofs.MoveLemmas.{moves_stay}
-use Rattle.ph_rows.proofs.PresentLemmas.{IsCharge}
-use Rattle.ph_rows.proofs.SoundLemmas.{order_with, order_with_all, row_at-before, row_at-next}
+use Rattle.ph_items.specs.Weights.{texts_of}
+use Rattle.ph_facts.proofs.AmountLemmas.{IsRefunded, refunded_sums}
+use Rattle.ph_rows.proofs.RowLemmas.{latest_of-last, row_at-before, row_at-next}
+use Rattle.ph_facts.proofs.FollowLemmas.{first_follows, further_follows, origin_stands}
+use Rattle.ph_facts.proofs.HeldLemmas.{IsLoose, captured_is_loose, held_beside}
+use Rattle.ph_facts.proofs.MoveLemmas.{moves_stay}
+use Rattle.ph_facts.proofs.PresentLemmas.{IsCharge}
+use Rattle.ph_facts.proofs.SoundLemmas.{order_with, order_with_all}
 use Rattle.ph_refunds.specs.Entry.{new_refund, refund_rows, refund_txn, refunded_charge, refunded_from, with_refund, with_refund_txn}
 use Rattle.ph_refunds.specs.Laws.{refund_texts}
 use Rattle.ph_refunds.specs.Refunds.{left_of}

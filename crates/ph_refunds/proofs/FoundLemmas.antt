@@ -2,18 +2,18 @@
 use Rattle.std.specs.Prelude.{codes, option_and_then}
 use Rattle.std.proofs.Common.{◌≡◌, ℕ, List, Option, None, Some, refl}
 use Rattle.ph_base.specs.declared.ids.Kind.TheVariants as kind
-use Rattle.ph_calls.specs.Outcomes.{Outcome, Refuses}
+use Rattle.ph_facts.specs.Outcomes.{Outcome, Refuses}
 use Rattle.ph_errors.specs.declared.api_error.ApiError.{ApiError}
 use Rattle.ph_errors.specs.Table.{error_of, NoSuchObject, ParameterMissing}
 use Rattle.ph_rows.specs.declared.rows.Row.{Row}
-use Rattle.ph_rows.specs.declared.charges.Charge.{Charge}
-use Rattle.ph_rows.specs.Items.{charge_in, latest_charge_in}
+use Rattle.ph_items.specs.declared.charges.Charge.{Charge}
+use Rattle.ph_items.specs.Items.{charge_in, latest_charge_in}
 use Rattle.ph_rows.specs.Names.{object_named}
 use Rattle.ph_rows.specs.Rows.{latest_of}
-use Rattle.ph_rows.specs.Sound.{IsSound}
+use Rattle.ph_facts.specs.Sound.{IsSound}
 use Rattle.ph_rows.specs.Views.{ViewState}
-use Rattle.ph_rows.proofs.FoundLemmas.{object_found}
-use Rattle.ph_rows.proofs.PresentLemmas.{IsCharge, charge_found}
+use Rattle.ph_facts.proofs.FoundLemmas.{object_found}
+use Rattle.ph_facts.proofs.PresentLemmas.{IsCharge, charge_found}
 use Rattle.ph_refunds.specs.Finding.{latest_charge_named, latest_version_in, made_at, made_of, made_of_row}
 
 -- the latest charge of a payment intent has a number

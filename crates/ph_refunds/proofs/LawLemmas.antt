@@ -3,15 +3,15 @@ use Rattle.std.specs.Prelude.{◌==◌, nat_lt, unwrap_or, codes}
 use Rattle.std.proofs.Common.{◌≡◌, ℕ, ◌+◌, ◌≤◌, ◌<◌, false, eqb, Option, None, Some, refl, ap, arith}
 use Rattle.std.proofs.lemmas.Bool.{cond_both, eqb-false}
 use Rattle.std.proofs.lemmas.Bool.Decides.{nat_tests}
-use Rattle.ph_calls.specs.Keeps.{AddsSound, KeepsSound, batch_after}
-use Rattle.ph_calls.specs.Outcomes.{Refuses, Adds}
+use Rattle.ph_facts.specs.Keeps.{AddsSound, KeepsSound, batch_after}
+use Rattle.ph_facts.specs.Outcomes.{Refuses, Adds}
 use Rattle.ph_errors.specs.Table.{error_of, ChargeAlreadyRefunded, ChargeDisputed, InvalidValue}
 use Rattle.ph_rows.specs.declared.rows.Row.{Row}
-use Rattle.ph_rows.specs.declared.charges.Capture.{Capture}
-use Rattle.ph_rows.specs.declared.charges.Charge.{Charge}
+use Rattle.ph_items.specs.declared.charges.Capture.{Capture}
+use Rattle.ph_items.specs.declared.charges.Charge.{Charge}
 use Rattle.ph_rows.specs.Batches.{BatchState, last_place}
-use Rattle.ph_rows.specs.Sound.{HasSums}
-use Rattle.ph_rows.proofs.PresentLemmas.{IsCharge}
+use Rattle.ph_facts.specs.Sound.{HasSums}
+use Rattle.ph_facts.proofs.PresentLemmas.{IsCharge}
 use Rattle.ph_refunds.specs.Entry.{refund_rows}
 use Rattle.ph_refunds.specs.Laws.{RefundsAreSums, refund_texts, summed}
 use Rattle.ph_refunds.specs.Refunds.{is_disputed, left_of, refund_amount, refund_by, refund_left, refund_of, refund_outcome}

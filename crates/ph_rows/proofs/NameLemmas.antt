@@ -11,7 +11,7 @@ use Rattle.ph_base.specs.Ids.{prefix_of, id_text}
 use Rattle.ph_base.specs.Numbers.{decimal, padded}
 use Rattle.ph_base.proofs.IdLemmas.{kinds, parts_of}
 use Rattle.ph_base.proofs.DecimalLemmas.{decimal_padded}
-use Rattle.ph_rows.specs.Kinds.{number_of}
+use Rattle.ph_items.specs.Kinds.{number_of}
 use Rattle.ph_rows.specs.Names.{number_named, is_printed_as}
 
 -- the kind of a number

@@ -1,10 +1,8 @@
-//! Look-ups, batches, weights and words, over a few rows.
+//! Look-ups, batches and weights, over a few rows.
 
 mod balances;
 mod batches;
-mod metadata;
 mod names;
 mod samples;
 mod views;
 mod weights;
-mod words;

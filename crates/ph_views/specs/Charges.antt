@@ -2,12 +2,12 @@
 use Rattle.std.specs.Prelude.{ℕ, Bool, true, false, ◌==◌, ◌&&◌, nat_lt, is_some, pos, List, [], ◌∷◌, ◌++◌, Option, None, Some, option_map, codes}
 use Rattle.ph_base.specs.declared.ids.Kind.TheVariants as kind
 use Rattle.ph_money.specs.Currencies.{code_of}
-use Rattle.ph_rows.specs.declared.charges.Capture.{Capture}
-use Rattle.ph_rows.specs.declared.charges.Charge.{Charge}
-use Rattle.ph_rows.specs.declared.charges.ChargeStatus.{ChargeStatus}
-use Rattle.ph_rows.specs.declared.charges.ChargeStatus.TheVariants as status
-use Rattle.ph_rows.specs.Words.{charge_status_text}
-use Rattle.ph_rows.specs.Weights.{method_text}
+use Rattle.ph_items.specs.declared.charges.Capture.{Capture}
+use Rattle.ph_items.specs.declared.charges.Charge.{Charge}
+use Rattle.ph_items.specs.declared.charges.ChargeStatus.{ChargeStatus}
+use Rattle.ph_items.specs.declared.charges.ChargeStatus.TheVariants as status
+use Rattle.ph_items.specs.Words.{charge_status_text}
+use Rattle.ph_items.specs.Weights.{method_text}
 use Rattle.ph_errors.specs.declared.kinds.Code.{Code}
 use Rattle.ph_errors.specs.declared.kinds.Code.TheVariants as code
 use Rattle.ph_errors.specs.Names.{code_name}

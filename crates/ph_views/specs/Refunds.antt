@@ -2,8 +2,8 @@
 use Rattle.std.specs.Prelude.{ℕ, pos, List, [], ◌∷◌, ◌++◌, option_map, codes}
 use Rattle.ph_base.specs.declared.ids.Kind.TheVariants as kind
 use Rattle.ph_money.specs.Currencies.{code_of}
-use Rattle.ph_rows.specs.declared.refunds.Refund.{Refund}
-use Rattle.ph_rows.specs.Words.{refund_reason_text}
+use Rattle.ph_items.specs.declared.refunds.Refund.{Refund}
+use Rattle.ph_items.specs.Words.{refund_reason_text}
 use Rattle.ph_json.specs.declared.doc.Doc.{Doc}
 use Rattle.ph_json.specs.declared.doc.Doc.TheVariants.{Null, Number, Text, Object}
 use Rattle.ph_json.specs.Values.{text_or_null}

@@ -7,8 +7,8 @@ ghost use Rattle.ph_json.specs.Values.{text_or_null};
 use crate::values;
 use ph_base::{Kind, NoMemory};
 use ph_errors::Code;
+use ph_items::{Capture, Charge, ChargeStatus};
 use ph_json::{Doc, Members};
-use ph_rows::{Capture, Charge, ChargeStatus};
 use std::alloc::Global;
 
 /// The document of a version of a charge that was created at a moment and has a number.

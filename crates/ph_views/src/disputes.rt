@@ -4,8 +4,8 @@ ghost use Rattle.ph_views.specs.Disputes.{dispute_doc, dispute_amount_members, d
 
 use crate::values;
 use ph_base::{Bytes, Kind, NoMemory};
+use ph_items::Dispute;
 use ph_json::{Doc, Members};
-use ph_rows::Dispute;
 use std::alloc::Global;
 
 /// The document of a version of a dispute that was created at a moment and has a number.

@@ -3,13 +3,13 @@
 use crate::tests::{account, bytes, event, metadata, prints, prints_new, row, view_of};
 use crate::{balance_doc, clock_doc};
 use ph_base::{Method, NoMemory};
+use ph_items::{
+    Capture, CaptureMethod, Charge, ChargeStatus, Dispute, DisputeStatus, EventKind, Intent,
+    IntentStatus, Item, PaymentMethod, Refund, RefundReason, Txn, TxnSource, TxnType,
+};
 use ph_json::text;
 use ph_money::{Amount, Currency, SignedAmount};
-use ph_rows::{
-    Capture, CaptureMethod, Charge, ChargeStatus, Dispute, DisputeStatus, EventKind, Intent,
-    IntentStatus, Item, ListView, PaymentMethod, Refund, RefundReason, Row, Txn, TxnSource,
-    TxnType,
-};
+use ph_rows::{ListView, Row};
 use std::alloc::Global;
 use std::process::Abort;
 use std::test::Fail;

@@ -1,13 +1,13 @@
 //! Refunds.
 ghost use Rattle.std.specs.Prelude.{◌≡◌, IfOk, option_map};
-ghost use Rattle.ph_rows.specs.Words.{refund_reason_text};
+ghost use Rattle.ph_items.specs.Words.{refund_reason_text};
 ghost use Rattle.ph_json.specs.Values.{text_or_null};
 ghost use Rattle.ph_views.specs.Refunds.{refund_doc, refund_amount_members, refund_name_members};
 
 use crate::values;
 use ph_base::{Kind, NoMemory};
+use ph_items::{Refund, RefundReason};
 use ph_json::{Doc, Members};
-use ph_rows::{Refund, RefundReason};
 use std::alloc::Global;
 
 /// The document of a refund that was created at a moment and has a number.

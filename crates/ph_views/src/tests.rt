@@ -2,13 +2,13 @@
 //! non-ASCII characters.
 use crate::{item_doc, item_text};
 use ph_base::{Bytes, Decline, Method, NoMemory};
+use ph_items::{
+    Account, AccountType, Attempt, AttemptState, CancellationReason, CaptureMethod, Event,
+    EventKind, Intent, IntentStatus, Item, Metadata, Order, PaymentError, PaymentMethod,
+};
 use ph_json::text;
 use ph_money::{Amount, Currency};
-use ph_rows::{
-    Account, AccountType, Attempt, AttemptState, CancellationReason, CaptureMethod, Event,
-    EventKind, Intent, IntentStatus, Item, ListView, Metadata, Order, PaymentError, PaymentMethod,
-    Row, View,
-};
+use ph_rows::{ListView, Row, View};
 use std::alloc::Global;
 use std::process::Abort;
 use std::test::Fail;

@@ -1,6 +1,6 @@
 //! Moments of the clock.
 ghost use Rattle.std.specs.Prelude.{◌≤◌};
-ghost use Rattle.ph_rows.specs.Sound.{clock_limit};
+ghost use Rattle.ph_items.specs.Clocks.{clock_limit};
 
 use super::shown::{book, large_book};
 use crate::{Act, Answer, Book, Deed, Refused};

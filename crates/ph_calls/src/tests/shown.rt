@@ -7,9 +7,9 @@ use crate::{
 use ph_base::{Bytes, NoMemory};
 use ph_errors::{ApiError, Refusal};
 use ph_http::Raw;
+use ph_items::PaymentMethod;
 use ph_kinds::Meta;
 use ph_money::Amount;
-use ph_rows::PaymentMethod;
 use std::alloc::Global;
 use std::process::Abort;
 

@@ -2,8 +2,9 @@
 
 use super::rows::{NOW, begun, give_up, pay, row, send, told};
 use ph_base::{Method, NoMemory};
+use ph_items::{DisputeStatus, EventKind, TxnSource, TxnType};
 use ph_money::Currency;
-use ph_rows::{DisputeStatus, EventKind, ListView, TxnSource, TxnType, View};
+use ph_rows::{ListView, View};
 use std::alloc::Global;
 use std::process::Abort;
 use std::test::Fail;

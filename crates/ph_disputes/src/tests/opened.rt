@@ -5,8 +5,9 @@ use super::rows::{
 };
 use crate::{open, open_due};
 use ph_base::Method;
+use ph_items::{DisputeStatus, EventKind, Item, TxnSource, TxnType};
 use ph_money::Currency;
-use ph_rows::{Batch, DisputeStatus, EventKind, Item, TxnSource, TxnType, View};
+use ph_rows::{Batch, View};
 use std::alloc::Global;
 use std::test::Fail;
 

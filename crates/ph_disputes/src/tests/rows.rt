@@ -4,11 +4,12 @@ use crate::{close, evidence, open_due};
 use ph_base::{Bytes, Method, NoMemory};
 use ph_calls::{CloseDispute, SendEvidence};
 use ph_errors::Refusal;
-use ph_money::{Amount, Currency, SignedAmount};
-use ph_rows::{
-    Batch, Capture, CaptureMethod, Charge, ChargeStatus, EventKind, Intent, IntentStatus, Item,
-    ListView, Metadata, PaymentMethod, Row, Txn, TxnSource, TxnType, View,
+use ph_items::{
+    Capture, CaptureMethod, Charge, ChargeStatus, EventKind, Intent, IntentStatus, Item, Metadata,
+    PaymentMethod, Txn, TxnSource, TxnType,
 };
+use ph_money::{Amount, Currency, SignedAmount};
+use ph_rows::{Batch, ListView, Row, View};
 use std::alloc::Global;
 use std::test::Fail;
 

@@ -10,10 +10,9 @@ use ph_calls::{
 use ph_errors::Refusal;
 use ph_form::{Form, read_form};
 use ph_http::Raw;
+use ph_items::{Account, AccountType, CancellationReason, Item, Metadata};
 use ph_kinds::{amount_at, currency_at, metadata_at, payment_method_at, text_at};
-use ph_rows::{
-    Account, AccountType, Batch, CancellationReason, Item, ListView, Metadata, Row, View,
-};
+use ph_rows::{Batch, ListView, Row, View};
 use std::alloc::Global;
 use std::process::Abort;
 

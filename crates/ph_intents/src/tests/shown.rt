@@ -2,11 +2,12 @@
 
 use ph_base::{Bytes, Decline, Method, NoMemory};
 use ph_errors::ApiError;
-use ph_money::{Amount, SignedAmount};
-use ph_rows::{
-    Attempt, AttemptState, Charge, Intent, Item, Metadata, Order, PaymentError, PaymentMethod, Row,
-    Txn, TxnSource,
+use ph_items::{
+    Attempt, AttemptState, Charge, Intent, Item, Metadata, Order, PaymentError, PaymentMethod, Txn,
+    TxnSource,
 };
+use ph_money::{Amount, SignedAmount};
+use ph_rows::Row;
 use std::alloc::Global;
 
 /// Adds a number in digits.

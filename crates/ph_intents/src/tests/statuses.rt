@@ -2,11 +2,12 @@
 
 use super::script::{came_of, first_row, platform_row, view_of};
 use ph_base::{Bytes, Method, NoMemory};
-use ph_money::{Amount, Currency};
-use ph_rows::{
-    CancellationReason, CaptureMethod, Charge, ChargeStatus, Intent, IntentStatus, Item, ListView,
-    Metadata, PaymentMethod,
+use ph_items::{
+    CancellationReason, CaptureMethod, Charge, ChargeStatus, Intent, IntentStatus, Item, Metadata,
+    PaymentMethod,
 };
+use ph_money::{Amount, Currency};
+use ph_rows::ListView;
 use std::alloc::Global;
 use std::process::Abort;
 use std::test::Fail;

@@ -3,7 +3,8 @@
 use super::rows::{call, enter, payment};
 use crate::refund;
 use ph_errors::{Code, Refusal};
-use ph_rows::{Batch, DisputeStatus, ListView, View};
+use ph_items::DisputeStatus;
+use ph_rows::{Batch, ListView, View};
 use std::alloc::Global;
 use std::process::Abort;
 use std::test::Fail;

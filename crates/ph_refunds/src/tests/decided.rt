@@ -2,9 +2,10 @@
 
 use super::rows::{DUE, OPENED, call, enter, payment, row};
 use ph_base::{Bytes, NoMemory};
+use ph_items::{EventKind, Item, RefundReason, TxnSource, TxnType};
 use ph_kinds::{Meta, Pairs};
 use ph_money::Currency;
-use ph_rows::{EventKind, Item, ListView, RefundReason, TxnSource, TxnType, View};
+use ph_rows::{ListView, View};
 use std::process::Abort;
 use std::test::Fail;
 

@@ -4,11 +4,12 @@ use crate::refund;
 use ph_base::{Bytes, Method, NoMemory};
 use ph_calls::CreateRefund;
 use ph_errors::Refusal;
-use ph_money::{Amount, Currency, SignedAmount};
-use ph_rows::{
-    Batch, Capture, CaptureMethod, Charge, ChargeStatus, Dispute, DisputeStatus, Event, EventKind,
-    Intent, IntentStatus, Item, ListView, Metadata, Row, Txn, TxnSource, TxnType, View,
+use ph_items::{
+    Capture, CaptureMethod, Charge, ChargeStatus, Dispute, DisputeStatus, Event, EventKind, Intent,
+    IntentStatus, Item, Metadata, Txn, TxnSource, TxnType,
 };
+use ph_money::{Amount, Currency, SignedAmount};
+use ph_rows::{Batch, ListView, Row, View};
 use std::alloc::Global;
 use std::test::Fail;
 

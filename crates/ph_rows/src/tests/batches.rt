@@ -3,6 +3,7 @@
 use super::samples::{OPENED, charge, intent, place_of, two_accounts};
 use crate::*;
 use ph_base::Bytes;
+use ph_items::*;
 use std::test::Fail;
 
 // After eight rows: an intent is made and changed, and its event stands behind both rows.

@@ -3,6 +3,7 @@
 use super::samples::{place_of, two_accounts};
 use crate::*;
 use ph_base::Kind;
+use ph_items::*;
 use std::test::Fail;
 
 // Ids of objects of account 1, each with the place of its last version.

@@ -2,6 +2,7 @@
 
 use crate::*;
 use ph_base::{Bytes, Method, NoMemory};
+use ph_items::*;
 use ph_money::{Amount, Currency, SignedAmount};
 use std::alloc::Global;
 

@@ -3,6 +3,7 @@
 use super::samples::{OPENED, place_of, two_accounts};
 use crate::*;
 use ph_base::Kind;
+use ph_items::*;
 use ph_money::Currency;
 use std::test::Fail;
 

@@ -3,6 +3,7 @@
 use super::samples::{account, attempt, captured, charge, event, order, row};
 use crate::*;
 use ph_base::{Bytes, Decline, Method};
+use ph_items::*;
 use ph_money::{Amount, Currency};
 use std::test::Fail;
 

@@ -1,0 +1,11 @@
+pub mod AmountLemmas
+pub mod BatchLemmas
+pub mod ChargeLemmas
+pub mod EnterLemmas
+pub mod FollowLemmas
+pub mod FoundLemmas
+pub mod HeldLemmas
+pub mod MoveLemmas
+pub mod PresentLemmas
+pub mod SoundLemmas
+pub mod UnderwayLemmas

@@ -1,0 +1,4 @@
+//! Words and metadata.
+
+mod metadata;
+mod words;
