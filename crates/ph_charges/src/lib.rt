@@ -10,4 +10,4 @@ mod tests;
 
 pub use approvals::{approve, decline};
 pub use captures::capture;
-pub use splits::split;
+pub use splits::{SplitRow, split};

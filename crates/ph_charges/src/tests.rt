@@ -1,8 +1,8 @@
 use super::{approve, capture, decline, split};
 use ph_base::{Bytes, Method, NoMemory};
 use ph_items::{
-    CaptureMethod, Charge, ChargeStatus, EventKind, Intent, IntentStatus, Item, Metadata,
-    PaymentMethod, Txn, TxnSource, TxnType,
+    CaptureMethod, Charge, ChargeSort, ChargeStatus, EventKind, Intent, IntentStatus, Item,
+    Metadata, PaymentMethod, Txn, TxnSource, TxnType,
 };
 use ph_money::{Amount, Currency};
 use ph_rows::{Batch, ListView, Row, View};
@@ -87,7 +87,10 @@ fn an_approval_that_is_captured(rt: HostRuntime) -> Result<(), Fail> {
     assert_eq!(rt; rows.len(), 3);
     assert_eq!(rt; (rows[0].place, rows[0].object, rows[0].account), (6, 6, 1));
     let made = charge(&rows[0])?;
-    assert_eq!(rt; (made.intent, made.status), (2, ChargeStatus::Succeeded));
+    assert_eq!(rt;
+        (made.sort, made.status),
+        (ChargeSort::Card(2), ChargeStatus::Succeeded)
+    );
     assert_eq!(rt; made.amount.units(), 1099);
     assert_eq!(rt; made.amount_captured.units(), 1099);
     let settled = made.capture.ok_or("not captured")?;
@@ -195,9 +198,9 @@ fn splits(rt: HostRuntime) -> Result<(), Fail> {
     let alloc = rt.alloc();
     let view = held(&rt, alloc)?;
     let mut batch = Batch::new(alloc, 9, NOW, 3);
-    split(&view, 5, Amount::new(500), &mut batch)?;
+    split(alloc, &view, 5, Amount::new(500), &mut batch)?;
     assert_eq!(rt; batch.count(), 9);
-    split(&view, 6, Amount::new(500), &mut batch)?;
+    split(alloc, &view, 6, Amount::new(500), &mut batch)?;
     let rows = batch.into_rows(alloc, None)?;
     assert_eq!(rt; rows.len(), 1);
     is_charged(&rt, &txn(&rows[0])?, 6, 500, 45, NOW + 172800);

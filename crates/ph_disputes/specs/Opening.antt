@@ -6,6 +6,7 @@ use Rattle.ph_items.specs.declared.disputes.Dispute.{Dispute}
 use Rattle.ph_items.specs.declared.disputes.DisputeStatus.TheVariants as status
 use Rattle.ph_items.specs.declared.event_kinds.EventKind.TheVariants as event
 use Rattle.ph_items.specs.declared.items.Item.TheVariants as item
+use Rattle.ph_items.specs.Charges.{paid_intent}
 use Rattle.ph_items.specs.declared.transactions.Txn.{Txn}
 use Rattle.ph_items.specs.declared.transactions.TxnSource.TheVariants as source
 use Rattle.ph_items.specs.declared.transactions.TxnType.TheVariants as sort
@@ -17,7 +18,7 @@ use Rattle.ph_items.specs.Disputes.{dispute_fee}
 abbrev pub new_dispute : ℕ → Charge → Dispute
 new_dispute object charge = record {
   charge = object;
-  intent = charge.intent;
+  intent = paid_intent charge.sort;
   amount = charge.amount_captured;
   currency = charge.currency;
   status = status.NeedsResponse;

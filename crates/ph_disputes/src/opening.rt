@@ -18,7 +18,7 @@ fn new_dispute(object: u64, charge: &Charge) -> Dispute
 {
     Dispute {
         charge: object,
-        intent: charge.intent,
+        intent: charge.sort.intent(),
         amount: charge.amount_captured,
         currency: charge.currency,
         status: DisputeStatus::NeedsResponse,

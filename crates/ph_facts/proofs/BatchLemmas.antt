@@ -1,24 +1,18 @@
 -- The rows of a batch that may follow those of a view, as rows are added to it.
 use Rattle.std.proofs.Common.{◌≡◌, ℕ, ◌+◌, ◌^◌, ◌<◌, true, false, List, [], ◌∷◌, ◌++◌, Some, length, refl, arith}
-use Rattle.std.specs.List.{list_all}
-use Rattle.std.specs.Str.{is_utf8}
 use Rattle.std.proofs.lemmas.List.{length-append}
-use Rattle.ph_rows.specs.declared.rows.Row.{Row}
 use Rattle.ph_items.specs.declared.items.Item.{Item}
-use Rattle.ph_items.specs.declared.items.Item.TheVariants as item
-use Rattle.ph_items.specs.declared.events.Event.{Event}
 use Rattle.ph_items.specs.declared.event_kinds.EventKind.{EventKind}
-use Rattle.ph_rows.specs.Batches.{BatchState, last_place, next_row, with_row, with_announced}
 use Rattle.ph_items.specs.Kinds.{kind_of}
-use Rattle.ph_facts.specs.Origins.{HasOrigin, is_made_once, origin_of}
+use Rattle.ph_rows.specs.declared.rows.Row.{Row}
+use Rattle.ph_rows.specs.Batches.{BatchState, last_place, next_row, with_row, with_announced}
 use Rattle.ph_rows.specs.Rows.{row_at}
-use Rattle.ph_facts.specs.Sound.{AllMayFollow, IsInOrder, MayFollow}
 use Rattle.ph_rows.specs.Views.{ViewState}
-use Rattle.ph_items.specs.Weights.{texts_of}
-use Rattle.ph_facts.proofs.FollowLemmas.{IsNext, first_follows, follow_both, further_follows}
-use Rattle.ph_facts.proofs.SoundLemmas.{order_with_all}
 use Rattle.ph_rows.proofs.RowLemmas.{row_at-before}
-pub use Rattle.ph_facts.proofs.FollowLemmas.{has_begun_origin}
+use Rattle.ph_facts.specs.Order.{AllMayFollow, IsInOrder, MayFollow}
+use Rattle.ph_facts.specs.Origins.{is_made_once}
+use Rattle.ph_facts.proofs.FollowLemmas.{IsNext, MayStand, first_follows, follow_both, further_follows}
+use Rattle.ph_facts.proofs.OrderLemmas.{order_with_all}
 
 -- the view with the rows of a batch behind its own
 abbrev pub with_batch : ViewState → BatchState → ViewState
@@ -49,28 +43,22 @@ continues_told state batch sort object continues = record {
   follow = continues.follow;
 }
 
--- an item that may stand behind rows as a version of an object
-pub record MayStand (rows : List Row) (content : Item) : Type 0 where
-  pub texts : list_all is_utf8 (texts_of content) ≡ true
-  pub origins : HasOrigin rows (origin_of content)
-  pub silent : (event : Event) → content ≡ item.Event event → ⊥
-
 -- the next row of a batch stands at the next place behind the view and the batch
 next_is : (state : ViewState) (batch : BatchState) (object account : ℕ) (content : Item) → Continues state batch
-    → length state.rows + length batch.rows + 1 < 10 ^ 16 → list_all is_utf8 (texts_of content) ≡ true
+    → length state.rows + length batch.rows + 1 < 10 ^ 16
     → IsNext (with_batch state batch) (next_row batch object account content)
-next_is state batch object account content continues few texts =
+next_is state batch object account content continues few =
     let began : batch.began ≡ length state.rows = continues.began in
     let count : length (state.rows ++ batch.rows) ≡ length state.rows + length batch.rows = length-append state.rows batch.rows in
-    record { few = omega arith; place = omega arith; at = continues.at; texts = texts }
+    record { few = omega arith; place = omega arith; at = continues.at }
 
 -- the first version of a new object may follow
 pub first_may_follow : (state : ViewState) (batch : BatchState) (account : ℕ) (content : Item) → Continues state batch
     → length state.rows + length batch.rows + 1 < 10 ^ 16 → MayStand (state.rows ++ batch.rows) content
     → MayFollow (with_batch state batch) (next_row batch (last_place batch + 1) account content)
 first_may_follow state batch account content continues few stands =
-    let next = next_is state batch (last_place batch + 1) account content continues few stands.texts in
-    first_follows (with_batch state batch) (next_row batch (last_place batch + 1) account content) next next.place stands.origins stands.silent
+    let next = next_is state batch (last_place batch + 1) account content continues few in
+    first_follows (with_batch state batch) (next_row batch (last_place batch + 1) account content) next next.place stands
 
 -- the batch continues with it
 pub continues_first : (state : ViewState) (batch : BatchState) (account : ℕ) (content : Item) → Continues state batch
@@ -88,12 +76,12 @@ pub record IsFurtherOf (old : Row) (content : Item) : Type 0 where
 -- a further version of an object of which one stands in the view or in the batch may follow
 pub version_may_follow : (state : ViewState) (batch : BatchState) (old : Row) (content : Item) → IsInOrder state
     → Continues state batch → row_at old.place (state.rows ++ batch.rows) ≡ Some old
-    → length state.rows + length batch.rows + 1 < 10 ^ 16 → list_all is_utf8 (texts_of content) ≡ true → IsFurtherOf old content
+    → length state.rows + length batch.rows + 1 < 10 ^ 16 → MayStand (state.rows ++ batch.rows) content → IsFurtherOf old content
     → MayFollow (with_batch state batch) (next_row batch old.object old.account content)
-version_may_follow state batch old content order continues there few texts further =
+version_may_follow state batch old content order continues there few stands further =
     further_follows (with_batch state batch) old (next_row batch old.object old.account content)
     (order_with_all state batch.rows order continues.follow) there
-    (next_is state batch old.object old.account content continues few texts)
+    (next_is state batch old.object old.account content continues few) stands
     (record { object = refl; account = refl; kind = further.kind }) further.changes
 
 -- a further version of an object that stands in the view may follow
@@ -102,7 +90,7 @@ pub further_may_follow : (state : ViewState) (batch : BatchState) (old : Row) (c
     → MayStand (state.rows ++ batch.rows) content → IsFurtherOf old content
     → MayFollow (with_batch state batch) (next_row batch old.object old.account content)
 further_may_follow state batch old content order continues there few stands further =
-    version_may_follow state batch old content order continues (row_at-before old.place state.rows batch.rows old there) few stands.texts further
+    version_may_follow state batch old content order continues (row_at-before old.place state.rows batch.rows old there) few stands further
 
 -- the batch continues with it
 pub continues_further : (state : ViewState) (batch : BatchState) (old : Row) (content : Item) → IsInOrder state

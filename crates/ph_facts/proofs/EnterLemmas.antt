@@ -3,22 +3,22 @@ use Rattle.std.proofs.Common.{◌≡◌, ℕ, ◌+◌, ◌^◌, ◌<◌, inl, in
 use Rattle.std.specs.List.{fold, list_all, list_any}
 use Rattle.std.specs.Str.{is_utf8}
 use Rattle.std.proofs.lemmas.List.{length-append, append_assoc}
+use Rattle.ph_items.specs.Kinds.{kind_of}
+use Rattle.ph_items.specs.Weights.{with_text}
+use Rattle.ph_items.specs.Words.{subject_of}
 use Rattle.ph_rows.specs.declared.rows.Row.{Row}
 use Rattle.ph_rows.specs.declared.batches.Announced.{Announced}
 use Rattle.ph_rows.specs.Batches.{BatchState, last_place, account_of, event_row, event_rows, made_rows}
-use Rattle.ph_facts.specs.Entering.{AreTold, IsToldBy, MayBeEntered}
-use Rattle.ph_items.specs.Kinds.{kind_of}
 use Rattle.ph_rows.specs.Rows.{row_at, later_version, latest_of}
-use Rattle.ph_facts.specs.Sound.{AllMayFollow, IsInOrder, IsSound, MayFollow, with_next}
 use Rattle.ph_rows.specs.Views.{ViewState}
-use Rattle.ph_items.specs.Weights.{with_text}
-use Rattle.ph_items.specs.Words.{subject_of}
-use Rattle.ph_facts.proofs.AmountLemmas.{is_of_amounts, sums_beside}
-use Rattle.ph_rows.proofs.RowLemmas.{both_fail, latest_from, found_among, row_at-before, slice_get-before}
+use Rattle.ph_rows.proofs.RowLemmas.{both_fail, found_among, latest_from, row_at-before, slice_get-before}
+use Rattle.ph_facts.specs.Entering.{AreTold, IsToldBy, MayBeEntered}
+use Rattle.ph_facts.specs.Order.{AllMayFollow, IsInOrder, MayFollow, with_next}
+use Rattle.ph_facts.specs.Sound.{IsSound}
 use Rattle.ph_facts.proofs.FollowLemmas.{event_follows}
-use Rattle.ph_facts.proofs.HeldLemmas.{AllBeside, held_beside}
-use Rattle.ph_facts.proofs.MoveLemmas.{is_of_dispute, moves_stay}
-use Rattle.ph_facts.proofs.SoundLemmas.{order_with, order_with_all, stands_behind, versions_alike}
+use Rattle.ph_facts.proofs.HeldLemmas.{AllBeside}
+use Rattle.ph_facts.proofs.LawLemmas.{is_of_amounts, laws_beside}
+use Rattle.ph_facts.proofs.OrderLemmas.{order_with, order_with_all, stands_behind, versions_alike}
 
 -- the versions of the objects of some rows stand among rows
 abbrev Stand : List Row → List Row → Type 0
@@ -52,7 +52,7 @@ event_row_follows key objects state told order stand tells text room = at (lates
         let stands = stand told.object subject e in
         event_follows state subject (event_row key state.time objects (length state.rows + 1) told)
         (record { sort = told.sort; object = told.object; key = key }) order stands.0
-        (record { few = room; place = refl; at = refl; texts = text }) refl
+        (record { few = room; place = refl; at = refl }) refl text
         (record { is = refl; account = ap account_of e; object = sym stands.1; kind = h })
 
 -- the rows of events that are announced of objects whose versions stand may follow one after another
@@ -96,9 +96,9 @@ pub entered_sound : (state : ViewState) (key : Option (List ℕ)) (batch : Batch
 entered_sound state key batch sound enters text room =
     subst (λ (all : List Row). IsSound (record state { rows = all })) (append_assoc state.rows batch.rows news) (record {
       order = order_with_all entered news order follow;
-      charges = sums_beside (state.rows ++ batch.rows) news (events_pass_none is_of_amounts key batch.at batch.rows (last_place batch) batch.announced (λ place told. refl)) enters.charges;
-      held = held_beside entered news order (order_with_all entered news order follow) (events_beside (state.rows ++ batch.rows) key batch.at batch.rows (last_place batch) batch.announced) enters.held;
-      disputes = moves_stay (state.rows ++ batch.rows) news (events_pass_none is_of_dispute key batch.at batch.rows (last_place batch) batch.announced (λ place told. refl)) enters.disputes;
+      laws = laws_beside entered news order (order_with_all entered news order follow)
+          (events_pass_none is_of_amounts key batch.at batch.rows (last_place batch) batch.announced (λ place told. refl))
+          (events_beside (state.rows ++ batch.rows) key batch.at batch.rows (last_place batch) batch.announced) enters.laws;
     })
   where
     news : List Row

@@ -4,25 +4,31 @@ use Rattle.std.specs.List.{list_all}
 use Rattle.std.specs.Str.{is_utf8}
 use Rattle.std.proofs.lemmas.Bool.{false≢true}
 use Rattle.std.proofs.lemmas.List.{append-nil, append_assoc}
-use Rattle.ph_rows.specs.declared.rows.Row.{Row}
 use Rattle.ph_items.specs.declared.items.Item.{Item}
 use Rattle.ph_items.specs.declared.items.Item.TheVariants as item
 use Rattle.ph_items.specs.declared.events.Event.{Event}
 use Rattle.ph_items.specs.Kinds.{kind_of}
-use Rattle.ph_facts.specs.Origins.{HasOrigin, IsOrigin, is_made_once, origin_of}
-use Rattle.ph_rows.specs.Rows.{row_at}
-use Rattle.ph_facts.specs.Sound.{IsInOrder, HasBegun, HasSubject, MayFollow, AllMayFollow, with_next}
-use Rattle.ph_rows.specs.Views.{ViewState}
 use Rattle.ph_items.specs.Weights.{texts_of}
 use Rattle.ph_items.specs.Words.{subject_of}
+use Rattle.ph_rows.specs.declared.rows.Row.{Row}
+use Rattle.ph_rows.specs.Rows.{row_at}
+use Rattle.ph_rows.specs.Views.{ViewState}
 use Rattle.ph_rows.proofs.RowLemmas.{row_at-before, row_at-next, row_at_within}
+use Rattle.ph_facts.specs.Order.{AllMayFollow, AmountsFit, HasBegun, HasSubject, IsInOrder, MayFollow, with_next}
+use Rattle.ph_facts.specs.Origins.{HasOrigins, is_made_once, origins_of}
 
--- a row at the next place and the view's time, whose texts are UTF-8
+-- a row at the next place and the view's time
 pub record IsNext (state : ViewState) (new : Row) : Type 0 where
   pub few : length state.rows + 1 < 10 ^ 16
   pub place : new.place ≡ length state.rows + 1
   pub at : new.at ≡ state.time
-  pub texts : list_all is_utf8 (texts_of new.item) ≡ true
+
+-- an item that may stand behind rows as a version of an object, and is no event
+pub record MayStand (rows : List Row) (content : Item) : Type 0 where
+  pub texts : list_all is_utf8 (texts_of content) ≡ true
+  pub within : AmountsFit content
+  pub origins : HasOrigins rows (origins_of content)
+  pub silent : (event : Event) → content ≡ item.Event event → ⊥
 
 -- a further version of the object of a row that stands
 pub record IsFurther (old new : Row) : Type 0 where
@@ -30,21 +36,10 @@ pub record IsFurther (old new : Row) : Type 0 where
   pub account : new.account ≡ old.account
   pub kind : kind_of new.item ≡ kind_of old.item
 
--- an item that may have further versions was made for no object
-no_origin : (state : ViewState) (content : Item) → is_made_once content ≡ false → HasOrigin state.rows (origin_of content)
-no_origin state (item.Account account) e = tt
-no_origin state (item.Intent intent) e = tt
-no_origin state (item.Attempt attempt) e = tt
-no_origin state (item.Charge charge) e = tt
-no_origin state (item.Refund refund) e = absurd (false≢true (sym e))
-no_origin state (item.Dispute dispute) e = tt
-no_origin state (item.Txn txn) e = absurd (false≢true (sym e))
-no_origin state (item.Event event) e = absurd (false≢true (sym e))
-
 -- a further version of an object of which there may be several
 pub further_follows : (state : ViewState) (old new : Row) → IsInOrder state → row_at old.place state.rows ≡ Some old
-    → IsNext state new → IsFurther old new → is_made_once new.item ≡ false → MayFollow state new
-further_follows state old new order stands next further changes = record {
+    → IsNext state new → MayStand state.rows new.item → IsFurther old new → is_made_once new.item ≡ false → MayFollow state new
+further_follows state old new order stands next may further changes = record {
   few = next.few;
   place = next.place;
   at = next.at;
@@ -55,9 +50,10 @@ further_follows state old new order stands next further changes = record {
       let within : (0 < old.place) × (old.place ≤ length state.rows) = row_at_within old.place state.rows old stands in
       let last : old.place ≤ length state.rows = within.1 in omega arith);
   once = λ is. absurd (false≢true (sym changes ∙ is));
-  texts = next.texts;
-  origins = no_origin state new.item changes;
-  events = λ event is. absurd (false≢true (sym changes ∙ ap is_made_once is));
+  texts = may.texts;
+  within = may.within;
+  origins = may.origins;
+  events = λ event is. absurd (may.silent event is);
 }
   where
     begun : (found : Option Row) → row_at old.object state.rows ≡ found → HasBegun found old
@@ -76,31 +72,21 @@ begins_itself state new object =
     subst (λ (o : Option Row). HasBegun o new) (sym (ap (λ (o : ℕ). row_at o (state.rows ++ new ∷ [])) object ∙ row_at-next state.rows new))
     (record { object = refl; account = refl; kind = refl })
 
--- the first version of a new object, which is no event, and what it was made for is there
+-- the first version of a new object
 pub first_follows : (state : ViewState) (new : Row) → IsNext state new → new.object ≡ length state.rows + 1
-    → HasOrigin state.rows (origin_of new.item) → ((event : Event) → new.item ≡ item.Event event → ⊥) → MayFollow state new
-first_follows state new next object origin none = record {
+    → MayStand state.rows new.item → MayFollow state new
+first_follows state new next object may = record {
   few = next.few;
   place = next.place;
   at = next.at;
   begun = begins_itself state new object;
   first = (let p : new.place ≡ length state.rows + 1 = next.place in omega arith);
   once = λ is. object ∙ sym next.place;
-  texts = next.texts;
-  origins = origin;
-  events = λ event is. absurd (none event is);
+  texts = may.texts;
+  within = may.within;
+  origins = may.origins;
+  events = λ event is. absurd (may.silent event is);
 }
-
--- a row that may follow is of the object that its number begins, which is what a transaction or a refund of it comes from
-pub has_begun_origin : (found : Option Row) (row : Row) → HasBegun found row
-    → IsOrigin found (record { kind = kind_of row.item; number = row.object })
-has_begun_origin None row h = absurd h
-has_begun_origin (Some first) row h = record { object = h.object; kind = h.kind }
-
--- an object of which a version stands is there for what is made for it
-pub origin_stands : (state : ViewState) (old : Row) → IsInOrder state → row_at old.place state.rows ≡ Some old
-    → HasOrigin state.rows (Some (record { kind = kind_of old.item; number = old.object }))
-origin_stands state old order stands = has_begun_origin (row_at old.object state.rows) old (order.begun old.place old stands)
 
 -- the row of an event that speaks of the object of a row that stands
 pub record TellsOf (subject new : Row) (event : Event) : Type 0 where
@@ -112,16 +98,17 @@ pub record TellsOf (subject new : Row) (event : Event) : Type 0 where
 -- an event that tells of the object of a row that stands
 pub event_follows : (state : ViewState) (subject new : Row) (event : Event) → IsInOrder state
     → row_at subject.place state.rows ≡ Some subject → IsNext state new → new.object ≡ length state.rows + 1
-    → TellsOf subject new event → MayFollow state new
-event_follows state subject new event order stands next object tells = record {
+    → list_all is_utf8 (texts_of new.item) ≡ true → TellsOf subject new event → MayFollow state new
+event_follows state subject new event order stands next object texts tells = record {
   few = next.few;
   place = next.place;
   at = next.at;
   begun = begins_itself state new object;
   first = (let p : new.place ≡ length state.rows + 1 = next.place in omega arith);
   once = λ is. object ∙ sym next.place;
-  texts = next.texts;
-  origins = subst (λ (content : Item). HasOrigin state.rows (origin_of content)) (sym tells.is) tt;
+  texts = texts;
+  within = subst AmountsFit (sym tells.is) tt;
+  origins = subst (λ (content : Item). HasOrigins state.rows (origins_of content)) (sym tells.is) tt;
   events = λ other is. subst (λ (e : Event). HasSubject (row_at e.object state.rows) new e) (same other is)
       (subst (λ (o : ℕ). HasSubject (row_at o state.rows) new event) (sym tells.object)
       (speaks (row_at subject.object state.rows) (order.begun subject.place subject stands)));

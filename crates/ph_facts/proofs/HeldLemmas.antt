@@ -1,41 +1,25 @@
 -- Payment intents that wait for their capture, as rows are added.
-use Rattle.std.specs.Prelude.{slice_get, ◌==◌, option_and_then}
+use Rattle.std.specs.Prelude.{slice_get, option_and_then}
 use Rattle.std.proofs.Common.{◌≡◌, ℕ, zero, suc, ◌<◌, inl, inr, Bool, true, false, eqb, List, [], ◌∷◌, ◌++◌, Option, None, Some, length, sym, refl, ap, ◌∙◌, subst}
-use Rattle.std.specs.List.{fold, list_any}
-use Rattle.std.proofs.lemmas.Bool.{cond-false, eqb-false, eqb-true, ne_eqb}
+use Rattle.std.specs.List.{list_any}
+use Rattle.std.proofs.lemmas.Bool.{eqb-false, eqb-true, ne_eqb}
 use Rattle.ph_base.specs.declared.ids.Kind.TheVariants as kind
-use Rattle.ph_rows.specs.declared.rows.Row.{Row}
 use Rattle.ph_items.specs.declared.charges.Charge.{Charge}
+use Rattle.ph_items.specs.declared.charges.ChargeSort.TheVariants as charge_sort
 use Rattle.ph_items.specs.declared.intents.Intent.{Intent}
 use Rattle.ph_items.specs.declared.intents.IntentStatus.TheVariants as status
 use Rattle.ph_items.specs.declared.items.Item.{Item}
 use Rattle.ph_items.specs.declared.items.Item.TheVariants as item
+use Rattle.ph_items.specs.Charges.{charge_kind}
 use Rattle.ph_items.specs.Items.{charge_in}
 use Rattle.ph_items.specs.Kinds.{kind_of}
-use Rattle.ph_rows.specs.Rows.{later_version, latest_of}
-use Rattle.ph_facts.specs.Sound.{AreHeld, IsHeldBy, IsHeldAt, IsInOrder, charge_of}
-use Rattle.ph_rows.proofs.RowLemmas.{is_version, latest_from, latest_of-apart, both_fail, first_fails, second_fails, found_among, row_at-before}
+use Rattle.ph_rows.specs.declared.rows.Row.{Row}
+use Rattle.ph_rows.specs.Rows.{latest_of}
 use Rattle.ph_rows.specs.Views.{ViewState}
-use Rattle.ph_facts.proofs.SoundLemmas.{latest_of-later, latest_of_order, stands_behind, versions_alike}
-
--- a payment intent stays held with rows of which none is a version of it, nor of a charge of it
-pub held_stays : (object : ℕ) (rows more : List Row) → list_any (is_version object) more ≡ false
-    → ((number : ℕ) (charge : Charge) → charge_of rows number ≡ Some charge → charge.intent ≡ object → list_any (is_version number) more ≡ false)
-    → IsHeldAt object rows → IsHeldAt object (rows ++ more)
-held_stays object rows more apart charges held row intent e is waits =
-    at intent.latest_charge (held row intent (sym (latest_of-apart object rows more apart) ∙ e) is waits)
-  where
-    found : (number : ℕ) (o : Option Charge) → charge_of rows number ≡ o → IsHeldBy object intent o
-        → IsHeldBy object intent (charge_of (rows ++ more) number)
-    found number None e h = absurd h
-    found number (Some charge) e h =
-        let same = latest_of-apart number rows more (charges number charge e h.intent) in
-        subst (IsHeldBy object intent) (sym (ap (option_and_then (λ (r : Row). charge_in r.item)) same ∙ e)) h
-
-    at : (o : Option ℕ) → IsHeldBy object intent (option_and_then (charge_of rows) o)
-        → IsHeldBy object intent (option_and_then (charge_of (rows ++ more)) o)
-    at None h = absurd h
-    at (Some number) h = found number (charge_of rows number) refl h
+use Rattle.ph_rows.proofs.RowLemmas.{both_fail, found_among, is_version, latest_from, latest_of-apart, row_at-before}
+use Rattle.ph_facts.specs.Held.{AreHeld, IsHeldBy, IsHeldAt, charge_of}
+use Rattle.ph_facts.specs.Order.{IsInOrder}
+use Rattle.ph_facts.proofs.OrderLemmas.{latest_of-later, latest_of_order, stands_behind, versions_alike}
 
 -- a payment intent doesn't wait for its capture with the charge of a number as its latest one
 abbrev pub IsApart : List Row → ℕ → ℕ → Type 0
@@ -55,10 +39,10 @@ held_by rows object number row intent o held e is waits mine found =
 
 -- a charge of another payment intent holds nothing of one
 pub another_is_apart : (rows : List Row) (object number : ℕ) (charge : Charge) → IsHeldAt object rows
-    → charge_of rows number ≡ Some charge → (charge.intent ≡ object → ⊥) → IsApart rows object number
+    → charge_of rows number ≡ Some charge → (charge.sort ≡ charge_sort.Card object → ⊥) → IsApart rows object number
 another_is_apart rows object number charge held found other row intent e is waits mine =
     let by : IsHeldBy object intent (Some charge) = held_by rows object number row intent (Some charge) held e is waits mine found in
-    other by.intent
+    other by.sort
 
 -- a charge that was captured holds nothing
 pub captured_is_loose : (rows : List Row) (number : ℕ) (charge : Charge) → AreHeld rows → charge_of rows number ≡ Some charge
@@ -116,11 +100,11 @@ charge_is_apart rows object version (item.Txn txn) k h = absurd (cc)
 charge_is_apart rows object version (item.Event event) k h = absurd (cc)
 
 -- the item of which there is a charge is one
-kind_of_charge : (content : Item) (charge : Charge) → charge_in content ≡ Some charge → kind_of content ≡ kind.Charge
+kind_of_charge : (content : Item) (charge : Charge) → charge_in content ≡ Some charge → kind_of content ≡ charge_kind charge.sort
 kind_of_charge (item.Account account) charge e = absurd (cc)
 kind_of_charge (item.Intent intent) charge e = absurd (cc)
 kind_of_charge (item.Attempt attempt) charge e = absurd (cc)
-kind_of_charge (item.Charge version) charge e = refl
+kind_of_charge (item.Charge version) charge e = (let same : version ≡ charge = cc in ap (λ (c : Charge). charge_kind c.sort) same)
 kind_of_charge (item.Refund refund) charge e = absurd (cc)
 kind_of_charge (item.Dispute dispute) charge e = absurd (cc)
 kind_of_charge (item.Txn txn) charge e = absurd (cc)
@@ -147,14 +131,15 @@ held_kept state more object before order leave held row intent e is waits =
     whole = record state { rows = state.rows ++ more }
 
     apart : (number : ℕ) (last : Row) (charge : Charge) → latest_of object state.rows ≡ Some row → intent.latest_charge ≡ Some number
-        → latest_of number state.rows ≡ Some last → charge_in last.item ≡ Some charge → list_any (is_version number) more ≡ false
-    apart number last charge old mine latest found = none_passes (is_version number) more (λ i new there.
+        → latest_of number state.rows ≡ Some last → charge_in last.item ≡ Some charge → charge.sort ≡ charge_sort.Card object
+        → list_any (is_version number) more ≡ false
+    apart number last charge old mine latest found card = none_passes (is_version number) more (λ i new there.
         ne_eqb new.object number (λ same.
         let stood = latest_of_order state number last before latest in
         let still = row_at-before last.place state.rows more last stood.0 in
         let stands = stands_behind state more i new order there in
         let alike = versions_alike whole new.place last.place new last order stands still (same ∙ sym stood.1) in
-        let free = charge_is_apart state.rows object new.object new.item (alike ∙ kind_of_charge last.item charge found) (leaves_at state.rows object more i new leave there) in
+        let free = charge_is_apart state.rows object new.object new.item (alike ∙ kind_of_charge last.item charge found ∙ ap charge_kind card) (leaves_at state.rows object more i new leave there) in
         free row intent old is waits (mine ∙ ap Some (sym same))))
 
     stays : (number : ℕ) (last : Option Row) → latest_of object state.rows ≡ Some row → intent.latest_charge ≡ Some number
@@ -163,7 +148,7 @@ held_kept state more object before order leave held row intent e is waits =
     stays number last old mine latest None found h = absurd h
     stays number None old mine latest (Some charge) found h = absurd (cc)
     stays number (Some last) old mine latest (Some charge) found h =
-        let same = latest_of-apart number state.rows more (apart number last charge old mine latest found) in
+        let same = latest_of-apart number state.rows more (apart number last charge old mine latest found h.sort) in
         subst (IsHeldBy object intent) (sym (ap (option_and_then (λ (r : Row). charge_in r.item)) (same ∙ latest) ∙ found)) h
 
     at : (o : Option ℕ) → intent.latest_charge ≡ o → latest_of object state.rows ≡ Some row

@@ -1,198 +1,39 @@
--- Rows in order, and sound rows, as rows are added.
-use Rattle.std.specs.Prelude.{slice_get}
-use Rattle.std.proofs.Common.{◌≡◌, ℕ, zero, suc, ◌+◌, ◌-◌, ◌^◌, ◌≤◌, ◌<◌, ◌⊎◌, inl, inr, Bool, true, false, cond, eqb, List, [], ◌∷◌, ◌++◌, Option, None, Some, length, sym, refl, ap, ◌∙◌, subst, arith}
-use Rattle.std.specs.List.{fold, list_all}
-use Rattle.std.specs.Str.{is_utf8}
-use Rattle.std.proofs.lemmas.Bool.{eqb-true, eqb-false, cond-false, ne_eqb}
-use Rattle.std.proofs.lemmas.List.{length-append, append-nil, append_assoc}
-use Rattle.std.proofs.lemmas.Option.{slice_get_within}
-use Rattle.ph_rows.specs.declared.rows.Row.{Row}
-use Rattle.ph_items.specs.declared.items.Item.TheVariants as item
-use Rattle.ph_items.specs.declared.events.Event.{Event}
-use Rattle.ph_facts.specs.Origins.{Origin, HasOrigin, IsOrigin, is_made_once, origin_of}
-use Rattle.ph_items.specs.Kinds.{kind_of}
-use Rattle.ph_rows.specs.Rows.{row_at, later_version, latest_of}
-use Rattle.ph_rows.specs.Views.{ViewState}
-use Rattle.ph_items.specs.Weights.{texts_of}
+-- Sound rows.
+use Rattle.std.proofs.Common.{◌≡◌, ℕ, ◌≤◌, List, [], ◌++◌, Some, subst}
 use Rattle.ph_items.specs.Clocks.{clock_limit}
-use Rattle.ph_facts.specs.Sound.{AreHeld, HasBegun, HasSubject, HaveMoves, HaveSums, IsInOrder, IsSound, with_next, MayFollow, AllMayFollow}
-use Rattle.ph_rows.proofs.RowLemmas.{found_among, is_row_at, picked, row_at-before, row_at-more, row_at-next, row_at_within, slice_get-behind}
+use Rattle.ph_rows.specs.declared.rows.Row.{Row}
+use Rattle.ph_rows.specs.Rows.{row_at, latest_of}
+use Rattle.ph_rows.specs.Views.{ViewState}
+use Rattle.ph_facts.specs.Order.{AllMayFollow, HasBegun}
+use Rattle.ph_facts.specs.Sound.{IsSound, KeepLaws}
+use Rattle.ph_facts.proofs.OrderLemmas.{latest_of_order, order_empty, order_later, order_with_all}
 
--- an object that has begun has begun with more rows behind
-has_begun-before : (rows more : List Row) (row : Row) → HasBegun (row_at row.object rows) row
-    → HasBegun (row_at row.object (rows ++ more)) row
-has_begun-before rows more row h = at (row_at row.object rows) refl h
-  where
-    at : (o : Option Row) → row_at row.object rows ≡ o → HasBegun o row → HasBegun (row_at row.object (rows ++ more)) row
-    at None e h = absurd h
-    at (Some first) e h = subst (λ o. HasBegun o row) (sym (row_at-before row.object rows more first e)) h
-
--- an event that has a subject has it with more rows behind
-has_subject-before : (rows more : List Row) (row : Row) (event : Event)
-    → HasSubject (row_at event.object rows) row event → HasSubject (row_at event.object (rows ++ more)) row event
-has_subject-before rows more row event h = at (row_at event.object rows) refl h
-  where
-    at : (o : Option Row) → row_at event.object rows ≡ o → HasSubject o row event
-        → HasSubject (row_at event.object (rows ++ more)) row event
-    at None e h = absurd h
-    at (Some first) e h = subst (λ o. HasSubject o row event) (sym (row_at-before event.object rows more first e)) h
-
--- what an item was made for stays there with more rows behind
-pub has_origin-before : (rows more : List Row) (made_for : Option Origin) → HasOrigin rows made_for → HasOrigin (rows ++ more) made_for
-has_origin-before rows more None h = tt
-has_origin-before rows more (Some origin) h = at (row_at origin.number rows) refl h
-  where
-    at : (o : Option Row) → row_at origin.number rows ≡ o → IsOrigin o origin → IsOrigin (row_at origin.number (rows ++ more)) origin
-    at None e h = absurd h
-    at (Some first) e h = subst (λ o. IsOrigin o origin) (sym (row_at-before origin.number rows more first e)) h
-
--- the subject of an event stands among the rows
-subject_within : (rows : List Row) (row : Row) (event : Event) → HasSubject (row_at event.object rows) row event
-    → event.object ≤ length rows
-subject_within rows row event h = at (row_at event.object rows) refl h
-  where
-    at : (o : Option Row) → row_at event.object rows ≡ o → HasSubject o row event → event.object ≤ length rows
-    at None e h = absurd h
-    at (Some first) e h = (row_at_within event.object rows first e).1
-
--- no rows are in order at each time that a clock shows
-order_empty : (time : ℕ) → time ≤ clock_limit → IsInOrder (record { time = time; rows = [] })
-order_empty time clock = record {
-  clock = clock;
-  few = omega arith;
-  placed = λ place row e. none place row e;
-  begun = λ place row e. none place row e;
-  first = λ place row e. none place row e;
-  once = λ place row e is. none place row e;
-  past = λ place row e. none place row e;
-  texts = λ place row e. none place row e;
-  origins = λ place row e. none place row e;
-  events = λ place row event e is. none place row e;
+-- no rows keep the laws
+laws_empty : KeepLaws []
+laws_empty = record {
+  captured = λ object row amount e said. absurd (cc);
+  refunded = λ object row amount e said. absurd (cc);
+  moved = λ object row amount e said. absurd (cc);
+  held = λ object row intent e is waits. absurd (cc);
 }
-  where
-    none : {P : Type 0} (place : ℕ) (row : Row) → row_at place [] ≡ Some row → P
-    none place row e = absurd (let within = row_at_within place [] row e in omega arith)
 
 -- no rows are sound at each time that a clock shows
 pub sound_empty : (time : ℕ) → time ≤ clock_limit → IsSound (record { time = time; rows = [] })
-sound_empty time clock = record {
-  order = order_empty time clock;
-  charges = λ object row charge e is. absurd (cc);
-  held = λ object row intent e is waits. absurd (cc);
-  disputes = λ object row dispute e is. absurd (cc);
-}
-
--- rows in order stay so at a later time
-order_later : (state : ViewState) (now : ℕ) → IsInOrder state → state.time ≤ now → now ≤ clock_limit
-    → IsInOrder (record state { time = now })
-order_later state now order later clock = record {
-  clock = clock;
-  few = order.few;
-  placed = order.placed;
-  begun = order.begun;
-  first = order.first;
-  once = order.once;
-  past = λ place row e. (let before : row.at ≤ state.time = order.past place row e in omega arith);
-  texts = order.texts;
-  origins = order.origins;
-  events = order.events;
-}
+sound_empty time clock = record { order = order_empty time clock; laws = laws_empty }
 
 -- a sound view stays sound at a later time
 pub sound_later : (state : ViewState) (now : ℕ) → IsSound state → state.time ≤ now → now ≤ clock_limit → IsSound (record state { time = now })
-sound_later state now sound later clock = record {
-  order = order_later state now sound.order later clock;
-  charges = sound.charges;
-  held = sound.held;
-  disputes = sound.disputes;
-}
+sound_later state now sound later clock = record { order = order_later state now sound.order later clock; laws = sound.laws }
 
--- rows in order stay so with a row that may follow
-pub order_with : (state : ViewState) (new : Row) → IsInOrder state → MayFollow state new → IsInOrder (with_next state new)
-order_with state new order follows = record {
-  clock = order.clock;
-  few = (let room : length state.rows + 1 < 10 ^ 16 = follows.few in let longer = length-append state.rows (new ∷ []) in omega arith);
-  placed = λ place row e. elim (row_at-more place state.rows new row e) [
-    | inl old ↦ order.placed place row old
-    | inr last ↦ subst (λ (r : Row). r.place ≡ place) last.1 (follows.place ∙ sym last.0)
-  ];
-  begun = λ place row e. elim (row_at-more place state.rows new row e) [
-    | inl old ↦ has_begun-before state.rows (new ∷ []) row (order.begun place row old)
-    | inr last ↦ subst (λ (r : Row). HasBegun (row_at r.object (state.rows ++ new ∷ [])) r) last.1 follows.begun
-  ];
-  first = λ place row e. elim (row_at-more place state.rows new row e) [
-    | inl old ↦ order.first place row old
-    | inr last ↦ subst (λ (r : Row). r.object ≤ place) last.1 (here place last.0)
-  ];
-  once = λ place row e is. elim (row_at-more place state.rows new row e) [
-    | inl old ↦ order.once place row old is
-    | inr last ↦ made_once place row last.0 last.1 is
-  ];
-  past = λ place row e. elim (row_at-more place state.rows new row e) [
-    | inl old ↦ order.past place row old
-    | inr last ↦ subst (λ (r : Row). r.at ≤ state.time) last.1 (let now : new.at ≡ state.time = follows.at in omega arith)
-  ];
-  texts = λ place row e. elim (row_at-more place state.rows new row e) [
-    | inl old ↦ order.texts place row old
-    | inr last ↦ subst (λ (r : Row). list_all is_utf8 (texts_of r.item) ≡ true) last.1 follows.texts
-  ];
-  origins = λ place row e. elim (row_at-more place state.rows new row e) [
-    | inl old ↦ has_origin-before state.rows (new ∷ []) (origin_of row.item) (order.origins place row old)
-    | inr last ↦ subst (λ (r : Row). HasOrigin (state.rows ++ new ∷ []) (origin_of r.item)) last.1 (has_origin-before state.rows (new ∷ []) (origin_of new.item) follows.origins)
-  ];
-  events = λ place row event e is. elim (row_at-more place state.rows new row e) [
-    | inl old ↦ ((order.events place row event old is).0, has_subject-before state.rows (new ∷ []) row event (order.events place row event old is).1)
-    | inr last ↦ told place row event last.0 (subst (λ (r : Row). (event : Event) → r.item ≡ item.Event event → HasSubject (row_at event.object state.rows) r event) last.1 follows.events event is)
-  ];
-}
-  where
-    here : (place : ℕ) → place ≡ length state.rows + 1 → new.object ≤ place
-    here place at = let a : new.place ≡ length state.rows + 1 = follows.place in let b : new.object ≤ new.place = follows.first in omega arith
-
-    made_once : (place : ℕ) (row : Row) → place ≡ length state.rows + 1 → new ≡ row → is_made_once row.item ≡ true → row.object ≡ place
-    made_once place row at same is =
-        let mine : is_made_once new.item ≡ true = subst (λ (r : Row). is_made_once r.item ≡ true) (sym same) is in
-        subst (λ (r : Row). r.object ≡ place) same (follows.once mine ∙ follows.place ∙ sym at)
-
-    told : (place : ℕ) (row : Row) (event : Event) → place ≡ length state.rows + 1
-        → HasSubject (row_at event.object state.rows) row event
-        → (event.object < place) × HasSubject (row_at event.object (state.rows ++ new ∷ [])) row event
-    told place row event at h = (let within : event.object ≤ length state.rows = subject_within state.rows row event h in omega arith, has_subject-before state.rows (new ∷ []) row event h)
-
--- the present version of an object stands at its place, and is of the object
-pub latest_of_order : (state : ViewState) (object : ℕ) (row : Row) → IsInOrder state
-    → latest_of object state.rows ≡ Some row → (row_at row.place state.rows ≡ Some row) × (row.object ≡ object)
-latest_of_order state object row order e = elim (found_among object None state.rows row e) [
-  | inl none ↦ absurd (cc)
-  | inr there ↦ at there.0 there.1 there.2
-]
-  where
-    at : (i : ℕ) → slice_get state.rows i ≡ Some row → row.object ≡ object
-        → (row_at row.place state.rows ≡ Some row) × (row.object ≡ object)
-    at i found o =
-        let before : i ≡ (i + 1) - 1 = omega arith in
-        let place : row_at (i + 1) state.rows ≡ Some row = is_row_at (i + 1) state.rows row (λ z. omega arith) (subst (λ j. slice_get state.rows j ≡ Some row) before found) in
-        (subst (λ p. row_at p state.rows ≡ Some row) (sym (order.placed (i + 1) row place)) place, o)
+-- a sound view stays sound with the rows of an entry: they may follow one another, and with them the rows keep the laws
+pub sound_with_all : (state : ViewState) (rows : List Row) → IsSound state → AllMayFollow state rows
+    → KeepLaws (state.rows ++ rows) → IsSound (record state { rows = state.rows ++ rows })
+sound_with_all state rows sound follow laws = record { order = order_with_all state rows sound.order follow; laws = laws }
 
 -- the same among sound rows
 pub latest_of_sound : (state : ViewState) (object : ℕ) (row : Row) → IsSound state
     → latest_of object state.rows ≡ Some row → (row_at row.place state.rows ≡ Some row) × (row.object ≡ object)
 latest_of_sound state object row sound e = latest_of_order state object row sound.order e
-
--- an object that is made after the rows has no version among them
-pub latest_of-later : (state : ViewState) (object : ℕ) → IsInOrder state → length state.rows < object
-    → latest_of object state.rows ≡ None
-latest_of-later state object order later = at (latest_of object state.rows) refl
-  where
-    at : (found : Option Row) → latest_of object state.rows ≡ found → found ≡ None
-    at None e = refl
-    at (Some row) e =
-        let stands : (row_at row.place state.rows ≡ Some row) × (row.object ≡ object) = latest_of_order state object row order e in
-        let first : row.object ≤ row.place = order.first row.place row stands.0 in
-        let within : (0 < row.place) × (row.place ≤ length state.rows) = row_at_within row.place state.rows row stands.0 in
-        let last : row.place ≤ length state.rows = within.1 in
-        let same : row.object ≡ object = stands.1 in
-        absurd (omega arith)
 
 -- the present version of an object is one of the object that its number begins
 pub latest_has_begun : (state : ViewState) (object : ℕ) (row : Row) → IsSound state → latest_of object state.rows ≡ Some row
@@ -200,46 +41,3 @@ pub latest_has_begun : (state : ViewState) (object : ℕ) (row : Row) → IsSoun
 latest_has_begun state object row sound e =
     let found : (row_at row.place state.rows ≡ Some row) × (row.object ≡ object) = latest_of_sound state object row sound e in
     subst (λ o. HasBegun (row_at o state.rows) row) found.1 (sound.order.begun row.place row found.0)
-
--- the versions of an object are of one kind
-pub versions_alike : (state : ViewState) (place other : ℕ) (row second : Row) → IsInOrder state
-    → row_at place state.rows ≡ Some row → row_at other state.rows ≡ Some second → row.object ≡ second.object
-    → kind_of row.item ≡ kind_of second.item
-versions_alike state place other row second order here there same =
-    at (row_at row.object state.rows) (order.begun place row here)
-    (subst (λ (o : ℕ). HasBegun (row_at o state.rows) second) (sym same) (order.begun other second there))
-  where
-    at : (first : Option Row) → HasBegun first row → HasBegun first second → kind_of row.item ≡ kind_of second.item
-    at None h k = absurd h
-    at (Some first) h k = sym h.kind ∙ k.kind
-
--- the rows behind others stand at their places
-pub stands_behind : (state : ViewState) (more : List Row) (i : ℕ) (row : Row) → IsInOrder (record state { rows = state.rows ++ more })
-    → slice_get more i ≡ Some row → row_at row.place (state.rows ++ more) ≡ Some row
-stands_behind state more i row order found =
-    let before : length state.rows + i ≡ (length state.rows + i + 1) - 1 = omega arith in
-    let place : row_at (length state.rows + i + 1) (state.rows ++ more) ≡ Some row =
-    is_row_at (length state.rows + i + 1) (state.rows ++ more) row (λ z. omega arith)
-    (subst (λ j. slice_get (state.rows ++ more) j ≡ Some row) before (slice_get-behind state.rows more i ∙ found)) in
-    subst (λ p. row_at p (state.rows ++ more) ≡ Some row) (sym (order.placed (length state.rows + i + 1) row place)) place
-
--- rows in order stay so with rows that may follow one after another
-pub order_with_all : (state : ViewState) (rows : List Row) → IsInOrder state → AllMayFollow state rows
-    → IsInOrder (record state { rows = state.rows ++ rows })
-order_with_all state [] order follow =
-    subst (λ (all : List Row). IsInOrder (record state { rows = all })) (sym (append-nil state.rows)) order
-order_with_all state (row ∷ rows) order follow =
-    subst (λ (all : List Row). IsInOrder (record state { rows = all })) (append_assoc state.rows (row ∷ []) rows)
-    (order_with_all (with_next state row) rows (order_with state row order follow.0) follow.1)
-
--- a sound view stays sound with the rows of an entry: they may follow one after another, and with them the amounts of
--- the charges are sums, payment intents that wait for their capture are held, and the disputes have moved what they should
-pub sound_with_all : (state : ViewState) (rows : List Row) → IsSound state → AllMayFollow state rows
-    → HaveSums (state.rows ++ rows) → AreHeld (state.rows ++ rows) → HaveMoves (state.rows ++ rows)
-    → IsSound (record state { rows = state.rows ++ rows })
-sound_with_all state rows sound follow charges held disputes = record {
-  order = order_with_all state rows sound.order follow;
-  charges = charges;
-  held = held;
-  disputes = disputes;
-}

@@ -8,13 +8,14 @@ use Rattle.ph_rows.specs.Batches.{BatchState, last_place, next_row, with_row, wi
 use Rattle.ph_facts.specs.Entering.{AreTold, IsToldBy}
 use Rattle.ph_items.specs.Kinds.{kind_of}
 use Rattle.ph_rows.specs.Rows.{row_at, latest_of}
-use Rattle.ph_facts.specs.Sound.{IsInOrder, MayFollow}
+use Rattle.ph_facts.specs.Order.{IsInOrder, MayFollow}
 use Rattle.ph_rows.specs.Views.{ViewState}
 use Rattle.ph_items.specs.Words.{subject_of}
 use Rattle.ph_rows.proofs.RowLemmas.{latest_of-last}
-use Rattle.ph_facts.proofs.BatchLemmas.{Continues, IsFurtherOf, MayStand, continues_told, continues_with, first_may_follow, further_may_follow, with_batch}
+use Rattle.ph_facts.proofs.FollowLemmas.{MayStand}
+use Rattle.ph_facts.proofs.BatchLemmas.{Continues, IsFurtherOf, continues_told, continues_with, first_may_follow, further_may_follow, with_batch}
 use Rattle.ph_facts.proofs.EnterLemmas.{told_with}
-use Rattle.ph_facts.proofs.SoundLemmas.{order_with_all}
+use Rattle.ph_facts.proofs.OrderLemmas.{order_with_all}
 
 -- a batch is under way: it continues the view, and its events tell of its rows
 pub record IsUnderway (state : ViewState) (batch : BatchState) : Type 0 where

@@ -1,5 +1,7 @@
--- What transactions and refunds add up to: the amounts of a charge, and what a dispute has moved.
-use Rattle.std.specs.Prelude.{ℕ, ◌+◌, Bool, true, false, ◌==◌, ◌&&◌, if◌then◌else◌, ℤ, pos, ◌+ℤ◌, ◌-ℤ◌, List, [], ◌∷◌, ◌++◌, Option, None, Some}
+-- The amounts that rows add up to: what was captured and what was refunded of a charge, and what a dispute has moved.
+use Rattle.std.specs.Prelude.{ℕ, ◌+◌, ℤ, pos, ◌+ℤ◌, ◌-ℤ◌, List, [], ◌∷◌, ◌++◌, Option, None, Some, option_map, option_and_then}
+use Rattle.ph_items.specs.declared.charges.Charge.{Charge}
+use Rattle.ph_items.specs.declared.disputes.Dispute.{Dispute}
 use Rattle.ph_items.specs.declared.disputes.DisputeStatus.{DisputeStatus}
 use Rattle.ph_items.specs.declared.disputes.DisputeStatus.TheVariants as status
 use Rattle.ph_items.specs.declared.refunds.Refund.{Refund}
@@ -9,58 +11,45 @@ use Rattle.ph_items.specs.declared.transactions.TxnType.TheVariants as sort
 use Rattle.ph_items.specs.declared.transactions.TxnSource.{TxnSource}
 use Rattle.ph_items.specs.declared.transactions.TxnSource.TheVariants as source
 use Rattle.ph_items.specs.Disputes.{dispute_fee}
-use Rattle.ph_items.specs.Items.{txn_in, refund_in}
+use Rattle.ph_items.specs.Items.{charge_in, dispute_in, refund_in, txn_in}
 use Rattle.ph_items.specs.Transactions.{source_number}
 use Rattle.ph_rows.specs.declared.rows.Row.{Row}
+use Rattle.ph_facts.specs.Tallies.{Part, Tally, sum_for}
 
--- the type is that of what is captured of a charge
-abbrev pub is_charge_type : TxnType → Bool
-is_charge_type sort.Charge = true
-is_charge_type sort.Refund = false
-is_charge_type sort.Adjustment = false
+-- what a transaction of a type adds to what was captured of its source: its amount, where the type is charge
+abbrev pub captured_by : TxnType → ℕ → ℤ → Option (Part ℤ)
+captured_by sort.Charge charge amount = Some (record { object = charge; amount = amount })
+captured_by sort.Refund charge amount = None
+captured_by sort.Adjustment charge amount = None
 
--- the amount of a transaction, where its type is charge and its source the charge
-abbrev pub captured_by : ℕ → Option Txn → ℤ
-captured_by charge None = pos 0
-captured_by charge (Some txn) =
-    if is_charge_type txn.sort && source_number txn.source == charge then txn.amount else pos 0
+-- what was captured of a charge: the sum of the amounts of the transactions of type charge whose source it is
+abbrev pub captured : Tally ℤ
+captured = record {
+  nothing = pos 0;
+  plus = λ first second. first +ℤ second;
+  part = λ item. option_and_then (λ (txn : Txn). captured_by txn.sort (source_number txn.source) txn.amount) (txn_in item);
+  said = λ item. option_map (λ (charge : Charge). pos charge.amount_captured) (charge_in item);
+}
 
--- the captured amount of a charge: the sum of the amounts of the transactions of type charge whose source it is
 abbrev pub captured_of : ℕ → List Row → ℤ
-captured_of charge [] = pos 0
-captured_of charge (row ∷ rows) = captured_by charge (txn_in row.item) +ℤ captured_of charge rows
+captured_of charge rows = sum_for captured charge rows
 
--- the amount of a refund, where it is one of the charge
-abbrev pub refunded_by : ℕ → Option Refund → ℕ
-refunded_by charge None = 0
-refunded_by charge (Some refund) = if refund.charge == charge then refund.amount else 0
+-- what was refunded of a charge: the sum of its refunds
+abbrev pub refunded : Tally ℕ
+refunded = record {
+  nothing = 0;
+  plus = λ first second. first + second;
+  part = λ item. option_map (λ (refund : Refund). record { object = refund.charge; amount = refund.amount }) (refund_in item);
+  said = λ item. option_map (λ (charge : Charge). charge.amount_refunded) (charge_in item);
+}
 
--- the refunded amount of a charge: the sum of its refunds
 abbrev pub refunded_of : ℕ → List Row → ℕ
-refunded_of charge [] = 0
-refunded_of charge (row ∷ rows) = refunded_by charge (refund_in row.item) + refunded_of charge rows
+refunded_of charge rows = sum_for refunded charge rows
 
--- a transaction comes from the dispute
-abbrev pub is_from_dispute : ℕ → TxnSource → Bool
-is_from_dispute dispute (source.Charge number) = false
-is_from_dispute dispute (source.Refund number) = false
-is_from_dispute dispute (source.Dispute number) = number == dispute
-
--- what a transaction moves for a dispute, where it comes from it
+-- what a transaction moves for a dispute
 pub record Move : Type 0 where
   pub amount : ℤ
   pub fee : ℤ
-
--- the moves of a transaction for a dispute: one, or none
-abbrev pub moves_by : ℕ → Option Txn → List Move
-moves_by dispute None = []
-moves_by dispute (Some txn) =
-    if is_from_dispute dispute txn.source then record { amount = txn.amount; fee = txn.fee } ∷ [] else []
-
--- what the transactions of a dispute moved, in their order
-abbrev pub moves_of : ℕ → List Row → List Move
-moves_of dispute [] = []
-moves_of dispute (row ∷ rows) = moves_by dispute (txn_in row.item) ++ moves_of dispute rows
 
 -- what a dispute of an amount takes when it is opened: the amount, and the fee
 abbrev pub taken_move : ℕ → Move
@@ -76,3 +65,21 @@ moves_in status.NeedsResponse amount = taken_move amount ∷ []
 moves_in status.UnderReview amount = taken_move amount ∷ []
 moves_in status.Won amount = taken_move amount ∷ given_move amount ∷ []
 moves_in status.Lost amount = taken_move amount ∷ []
+
+-- what a transaction from a source adds to what a dispute has moved: its own move, where the source is one
+abbrev pub moved_by : TxnSource → Move → Option (Part (List Move))
+moved_by (source.Charge number) move = None
+moved_by (source.Refund number) move = None
+moved_by (source.Dispute number) move = Some (record { object = number; amount = move ∷ [] })
+
+-- what a dispute has moved: the moves of its transactions, in their order
+abbrev pub moved : Tally (List Move)
+moved = record {
+  nothing = [];
+  plus = λ first second. first ++ second;
+  part = λ item. option_and_then (λ (txn : Txn). moved_by txn.source (record { amount = txn.amount; fee = txn.fee })) (txn_in item);
+  said = λ item. option_map (λ (dispute : Dispute). moves_in dispute.status dispute.amount) (dispute_in item);
+}
+
+abbrev pub moves_of : ℕ → List Row → List Move
+moves_of dispute rows = sum_for moved dispute rows

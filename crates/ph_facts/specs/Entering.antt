@@ -9,7 +9,8 @@ use Rattle.ph_rows.specs.Batches.{BatchState, made_rows}
 use Rattle.ph_items.specs.Kinds.{kind_of}
 use Rattle.ph_rows.specs.Rows.{latest_of}
 use Rattle.ph_items.specs.Weights.{with_text}
-use Rattle.ph_facts.specs.Sound.{AllMayFollow, AreHeld, HaveMoves, HaveSums, IsSound}
+use Rattle.ph_facts.specs.Order.{AllMayFollow}
+use Rattle.ph_facts.specs.Sound.{IsSound, KeepLaws}
 use Rattle.ph_rows.specs.Views.{ViewState}
 use Rattle.ph_items.specs.Words.{subject_of}
 
@@ -23,15 +24,13 @@ abbrev pub AreTold : List Row → List Announced → Type 0
 AreTold rows [] = Unit {0}
 AreTold rows (told ∷ announced) = IsToldBy (latest_of told.object rows) told.sort × AreTold rows announced
 
--- a batch may be entered after a sound view: it began there, its rows may follow one another, the sums and the moves are
--- right with all of them, and its events tell of them
+-- a batch may be entered after a sound view: it began there, its rows may follow one another, with all of them the rows keep
+-- the laws, and its events tell of them
 pub record MayBeEntered (state : ViewState) (batch : BatchState) : Type 0 where
   pub began : batch.began ≡ length state.rows
   pub at : batch.at ≡ state.time
   pub follow : AllMayFollow state batch.rows
-  pub charges : HaveSums (state.rows ++ batch.rows)
-  pub held : AreHeld (state.rows ++ batch.rows)
-  pub disputes : HaveMoves (state.rows ++ batch.rows)
+  pub laws : KeepLaws (state.rows ++ batch.rows)
   pub told : AreTold batch.rows batch.announced
 
 -- sound rows stay sound with a batch that may be entered and the events that it announces, under a key that is UTF-8, where

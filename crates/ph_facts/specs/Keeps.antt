@@ -17,11 +17,15 @@ AreUtf8 texts = list_all is_utf8 texts ≡ true
 abbrev pub no_texts : {C : Type 0} → C → List (List ℕ)
 no_texts call = []
 
--- an entry may be made after the rows of a view: they are sound, and sixteen digits number sixteen rows more, which is
--- above what any operation adds
+-- no entry adds more rows than this. The most that the table of rows gives is 41: a charge of a connected account, with a
+-- fee and disputed at once, has 9 object rows, 4 events and, with four endpoints an account, at most 28 deliveries
+abbrev pub most_rows : ℕ
+most_rows = 64
+
+-- an entry may be made after the rows of a view: they are sound, and sixteen digits number those that it adds
 pub record IsReady (state : ViewState) : Type 0 where
   pub sound : IsSound state
-  pub room : length state.rows + 16 < 10 ^ 16
+  pub room : length state.rows + most_rows < 10 ^ 16
 
 -- the empty batch of the entry of a place, after the rows of a view
 abbrev pub batch_after : ViewState → ℕ → BatchState

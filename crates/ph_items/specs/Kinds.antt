@@ -2,6 +2,7 @@
 use Rattle.std.specs.Prelude.{ℕ, Bool, ◌==◌}
 use Rattle.ph_base.specs.declared.ids.Kind.{Kind}
 use Rattle.ph_base.specs.declared.ids.Kind.TheVariants as kind
+use Rattle.ph_items.specs.Charges.{charge_kind}
 use Rattle.ph_items.specs.declared.items.Item.{Item}
 use Rattle.ph_items.specs.declared.items.Item.TheVariants as item
 
@@ -10,7 +11,7 @@ abbrev pub kind_of : Item → Kind
 kind_of (item.Account account) = kind.Account
 kind_of (item.Intent intent) = kind.Intent
 kind_of (item.Attempt attempt) = kind.Attempt
-kind_of (item.Charge charge) = kind.Charge
+kind_of (item.Charge charge) = charge_kind charge.sort
 kind_of (item.Refund refund) = kind.Refund
 kind_of (item.Dispute dispute) = kind.Dispute
 kind_of (item.Txn txn) = kind.Txn

@@ -1,4 +1,5 @@
 pub mod Accounts
+pub mod Charges
 pub mod Clocks
 pub mod Disputes
 pub mod Items

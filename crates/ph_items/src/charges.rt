@@ -4,7 +4,7 @@ ghost use Rattle.std.specs.Prelude.{◌≡◌, IfOk};
 use crate::copies::{copy_method, copy_text};
 use crate::metadata_pairs::Metadata;
 use crate::payment_methods::PaymentMethod;
-use ph_base::{Bytes, NoMemory};
+use ph_base::{Bytes, Kind, NoMemory};
 use ph_money::{Amount, Currency};
 use std::alloc::Global;
 
@@ -30,6 +30,50 @@ impl ChargeStatus {
     }
 }
 
+/// What a charge is made for.
+#[derive(Clone, Copy, Debug, PartialEq, Eq)]
+pub enum ChargeSort {
+    /// A card charge: it pays the payment intent of this number.
+    Card(u64),
+    /// A payment: what the transfer of this number gave to the account that it went to.
+    Payment(u64),
+}
+
+impl ChargeSort {
+    ghost use Rattle.std.specs.Prelude.{◌≡◌};
+    ghost use Rattle.ph_items.specs.Charges.{charge_kind, paid_intent, source_transfer};
+
+    /// The kind of the object.
+    pub fn kind(self) -> Kind
+        ensures { result ≡ charge_kind self }
+    {
+        match self {
+            ChargeSort::Card(_) => Kind::Charge,
+            ChargeSort::Payment(_) => Kind::Payment,
+        }
+    }
+
+    /// The number of the payment intent that a card charge pays. A payment pays none.
+    pub fn intent(self) -> Option<u64>
+        ensures { result ≡ paid_intent self }
+    {
+        match self {
+            ChargeSort::Card(intent) => Some(intent),
+            ChargeSort::Payment(_) => None,
+        }
+    }
+
+    /// The number of the transfer that a payment comes from. A card charge comes from none.
+    pub fn transfer(self) -> Option<u64>
+        ensures { result ≡ source_transfer self }
+    {
+        match self {
+            ChargeSort::Card(_) => None,
+            ChargeSort::Payment(transfer) => Some(transfer),
+        }
+    }
+}
+
 /// What a charge keeps of its capture.
 #[derive(Clone, Copy, Debug, PartialEq, Eq)]
 pub struct Capture {
@@ -39,13 +83,12 @@ pub struct Capture {
     pub available_on: u64,
 }
 
-/// A version of a charge: what the acquirer ruled on one confirmation of a payment intent. Amounts are in minor
-/// units of its currency. Payment method, description, metadata and transfer group are those that the payment
-/// intent had when the charge was made.
+/// A version of a charge: what the acquirer ruled on one confirmation of a payment intent, or what a transfer gave.
+/// Amounts are in minor units of its currency. Payment method, description, metadata and transfer group of a card
+/// charge are those that the payment intent had when the charge was made; a payment has none.
 #[derive(Drop, Debug)]
 pub struct Charge {
-    /// The number of the payment intent.
-    pub intent: u64,
+    pub sort: ChargeSort,
     /// What the acquirer was asked for.
     pub amount: Amount,
     pub amount_captured: Amount,
@@ -70,7 +113,7 @@ impl Charge {
         ensures { IfOk result (λ copy. copy ≡ self.now) }
     {
         Ok(Charge {
-            intent: self.intent,
+            sort: self.sort,
             amount: self.amount,
             amount_captured: self.amount_captured,
             amount_refunded: self.amount_refunded,

@@ -37,8 +37,8 @@ impl DisputeStatus {
 pub struct Dispute {
     /// The number of the charge.
     pub charge: u64,
-    /// The number of the payment intent that the charge pays.
-    pub intent: u64,
+    /// The number of the payment intent that the charge pays, where it is a card charge.
+    pub intent: Option<u64>,
     /// What is disputed, in minor units of the currency: all that was captured of the charge.
     pub amount: Amount,
     pub currency: Currency,

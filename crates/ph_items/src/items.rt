@@ -39,7 +39,7 @@ impl Item {
             Item::Account(_) => Kind::Account,
             Item::Intent(_) => Kind::Intent,
             Item::Attempt(_) => Kind::Attempt,
-            Item::Charge(_) => Kind::Charge,
+            Item::Charge(charge) => charge.sort.kind(),
             Item::Refund(_) => Kind::Refund,
             Item::Dispute(_) => Kind::Dispute,
             Item::Txn(_) => Kind::Txn,

@@ -23,7 +23,7 @@ mod weights;
 
 pub use accounts::{Account, AccountType, PLATFORM};
 pub use attempts::{Attempt, AttemptState};
-pub use charges::{Capture, Charge, ChargeStatus};
+pub use charges::{Capture, Charge, ChargeSort, ChargeStatus};
 pub use clocks::CLOCK_LIMIT;
 pub use copies::{copy_method, copy_text};
 pub use disputes::{Dispute, DisputeStatus};

@@ -33,8 +33,8 @@ impl RefundReason {
 pub struct Refund {
     /// The number of the charge.
     pub charge: u64,
-    /// The number of the payment intent that the charge pays.
-    pub intent: u64,
+    /// The number of the payment intent that the charge pays, where it is a card charge.
+    pub intent: Option<u64>,
     /// What is refunded, in minor units of the currency.
     pub amount: Amount,
     pub currency: Currency,

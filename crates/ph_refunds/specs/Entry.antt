@@ -6,6 +6,7 @@ use Rattle.ph_items.specs.declared.charges.Capture.{Capture}
 use Rattle.ph_items.specs.declared.charges.Charge.{Charge}
 use Rattle.ph_items.specs.declared.event_kinds.EventKind.TheVariants as event
 use Rattle.ph_items.specs.declared.items.Item.TheVariants as item
+use Rattle.ph_items.specs.Charges.{paid_intent}
 use Rattle.ph_items.specs.declared.refunds.Refund.{Refund}
 use Rattle.ph_items.specs.declared.transactions.Txn.{Txn}
 use Rattle.ph_items.specs.declared.transactions.TxnSource.TheVariants as source
@@ -16,7 +17,7 @@ use Rattle.ph_rows.specs.Batches.{BatchState, last_place, with_row, with_announc
 abbrev pub new_refund : CreateRefund → ℕ → Charge → ℕ → BatchState → Refund
 new_refund call object charge amount batch = record {
   charge = object;
-  intent = charge.intent;
+  intent = paid_intent charge.sort;
   amount = amount;
   currency = charge.currency;
   reason = call.reason;

@@ -61,7 +61,7 @@ fn new_refund(
     };
     Ok(Refund {
         charge: object,
-        intent: charge.intent,
+        intent: charge.sort.intent(),
         amount,
         currency: charge.currency,
         reason: call.reason,

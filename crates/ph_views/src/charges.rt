@@ -51,7 +51,7 @@ fn names(alloc: Global, created: u64, object: u64, charge: &Charge) -> Result<Me
     let mut members = Members::new(alloc);
     members.put("created", values::moment(created))?;
     members.text_or_null("description", &charge.description)?;
-    members.put("id", values::id(alloc, Kind::Charge, object)?)?;
+    members.put("id", values::id(alloc, charge.sort.kind(), object)?)?;
     members.truth("livemode", false)?;
     members.put("metadata", values::metadata(alloc, &charge.metadata)?)?;
     members.word("object", "charge")?;
@@ -85,13 +85,16 @@ fn payment(alloc: Global, charge: &Charge) -> Result<Members, NoMemory>
     let mut members = Members::new(alloc);
     members.put(
         "payment_intent",
-        values::id(alloc, Kind::Intent, charge.intent)?,
+        values::id_or_null(alloc, Kind::Intent, charge.sort.intent())?,
     )?;
     members.put(
         "payment_method",
         values::method(alloc, &charge.payment_method)?,
     )?;
-    members.null("source_transfer")?;
+    members.put(
+        "source_transfer",
+        values::id_or_null(alloc, Kind::Transfer, charge.sort.transfer())?,
+    )?;
     members.null("transfer")?;
     members.text_or_null("transfer_group", &charge.transfer_group)?;
     Ok(members)

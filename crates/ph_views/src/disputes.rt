@@ -35,7 +35,7 @@ fn amounts(alloc: Global, dispute: &Dispute) -> Result<Members, NoMemory>
     members.put("evidence", evidence(alloc, &dispute.evidence)?)?;
     members.put(
         "payment_intent",
-        values::id(alloc, Kind::Intent, dispute.intent)?,
+        values::id_or_null(alloc, Kind::Intent, dispute.intent)?,
     )?;
     members.word("reason", "fraudulent")?;
     members.text("status", dispute.status.text())?;

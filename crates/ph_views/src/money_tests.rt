@@ -4,8 +4,8 @@ use crate::tests::{account, bytes, event, metadata, prints, prints_new, row, vie
 use crate::{balance_doc, clock_doc};
 use ph_base::{Method, NoMemory};
 use ph_items::{
-    Capture, CaptureMethod, Charge, ChargeStatus, Dispute, DisputeStatus, EventKind, Intent,
-    IntentStatus, Item, PaymentMethod, Refund, RefundReason, Txn, TxnSource, TxnType,
+    Capture, CaptureMethod, Charge, ChargeSort, ChargeStatus, Dispute, DisputeStatus, EventKind,
+    Intent, IntentStatus, Item, PaymentMethod, Refund, RefundReason, Txn, TxnSource, TxnType,
 };
 use ph_json::text;
 use ph_money::{Amount, Currency, SignedAmount};
@@ -86,7 +86,7 @@ fn charge(alloc: Global) -> Result<Charge, NoMemory> {
 // The same charge before its capture.
 fn held(alloc: Global) -> Result<Charge, NoMemory> {
     Ok(Charge {
-        intent: 2,
+        sort: ChargeSort::Card(2),
         amount: Amount::new(1099),
         amount_captured: Amount::new(0),
         amount_refunded: Amount::new(0),
@@ -152,7 +152,7 @@ fn disputed(currency: Currency) -> Txn {
 fn dispute(status: DisputeStatus) -> Dispute {
     Dispute {
         charge: 6,
-        intent: 2,
+        intent: Some(2),
         amount: Amount::new(1099),
         currency: Currency::Usd,
         status,
@@ -164,7 +164,7 @@ fn dispute(status: DisputeStatus) -> Dispute {
 fn refund(alloc: Global) -> Result<Refund, NoMemory> {
     Ok(Refund {
         charge: 6,
-        intent: 2,
+        intent: Some(2),
         amount: Amount::new(1099),
         currency: Currency::Usd,
         reason: Some(RefundReason::RequestedByCustomer),

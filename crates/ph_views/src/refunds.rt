@@ -40,7 +40,7 @@ fn amounts(alloc: Global, refund: &Refund) -> Result<Members, NoMemory>
     members.text("currency", refund.currency.code())?;
     members.put(
         "payment_intent",
-        values::id(alloc, Kind::Intent, refund.intent)?,
+        values::id_or_null(alloc, Kind::Intent, refund.intent)?,
     )?;
     members.put("reason", reason(alloc, refund.reason)?)?;
     members.null("transfer_reversal")?;

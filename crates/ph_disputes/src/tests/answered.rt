@@ -31,7 +31,7 @@ fn is_version(
     let dispute = row.item.dispute().ok_or("no dispute")?;
     assert_eq!(rt;
         (dispute.charge, dispute.intent, dispute.status),
-        (3, 2, status)
+        (3, Some(2), status)
     );
     assert_eq!(rt; dispute.amount.units(), 2000);
     let kept = match &dispute.evidence {

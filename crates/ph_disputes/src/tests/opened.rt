@@ -23,7 +23,7 @@ fn a_payment_that_is_disputed(rt: HostRuntime) -> Result<(), Fail> {
     let opened = row(&view, 6)?;
     assert_eq!(rt; (opened.place, opened.object, opened.account), (6, 6, 1));
     let dispute = opened.item.dispute().ok_or("no dispute")?;
-    assert_eq!(rt; (dispute.charge, dispute.intent), (3, 2));
+    assert_eq!(rt; (dispute.charge, dispute.intent), (3, Some(2)));
     assert_eq!(rt; dispute.amount.units(), 2000);
     assert_eq!(rt;
         (dispute.currency, dispute.status),

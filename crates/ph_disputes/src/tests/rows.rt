@@ -5,8 +5,8 @@ use ph_base::{Bytes, Method, NoMemory};
 use ph_calls::{CloseDispute, SendEvidence};
 use ph_errors::Refusal;
 use ph_items::{
-    Capture, CaptureMethod, Charge, ChargeStatus, EventKind, Intent, IntentStatus, Item, Metadata,
-    PaymentMethod, Txn, TxnSource, TxnType,
+    Capture, CaptureMethod, Charge, ChargeSort, ChargeStatus, EventKind, Intent, IntentStatus,
+    Item, Metadata, PaymentMethod, Txn, TxnSource, TxnType,
 };
 use ph_money::{Amount, Currency, SignedAmount};
 use ph_rows::{Batch, ListView, Row, View};
@@ -43,7 +43,7 @@ pub fn charge(
     dispute: Option<u64>,
 ) -> Result<Item, NoMemory> {
     Ok(Item::Charge(Charge {
-        intent: 2,
+        sort: ChargeSort::Card(2),
         amount: Amount::new(2500),
         amount_captured: Amount::new(if capture.is_some() { 2000 } else { 0 }),
         amount_refunded: Amount::new(0),

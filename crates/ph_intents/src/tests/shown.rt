@@ -3,8 +3,8 @@
 use ph_base::{Bytes, Decline, Method, NoMemory};
 use ph_errors::ApiError;
 use ph_items::{
-    Attempt, AttemptState, Charge, Intent, Item, Metadata, Order, PaymentError, PaymentMethod, Txn,
-    TxnSource,
+    Attempt, AttemptState, Charge, ChargeSort, Intent, Item, Metadata, Order, PaymentError,
+    PaymentMethod, Txn, TxnSource,
 };
 use ph_money::{Amount, SignedAmount};
 use ph_rows::Row;
@@ -127,7 +127,10 @@ fn add_charge(alloc: Global, shown: &mut Vec<u8>, charge: &Charge) -> Result<(),
         Some(capture) => add_named_number(alloc, shown, b"txn", capture.transaction)?,
         None => {}
     }
-    add_named_number(alloc, shown, b"intent", charge.intent)?;
+    match charge.sort {
+        ChargeSort::Card(intent) => add_named_number(alloc, shown, b"intent", intent)?,
+        ChargeSort::Payment(transfer) => add_named_number(alloc, shown, b"transfer", transfer)?,
+    }
     add_method(shown, &charge.payment_method)?;
     add_text(shown, b"description", &charge.description)?;
     add_pairs(shown, &charge.metadata)?;

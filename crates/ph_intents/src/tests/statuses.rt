@@ -3,8 +3,8 @@
 use super::script::{came_of, first_row, platform_row, view_of};
 use ph_base::{Bytes, Method, NoMemory};
 use ph_items::{
-    CancellationReason, CaptureMethod, Charge, ChargeStatus, Intent, IntentStatus, Item, Metadata,
-    PaymentMethod,
+    CancellationReason, CaptureMethod, Charge, ChargeSort, ChargeStatus, Intent, IntentStatus,
+    Item, Metadata, PaymentMethod,
 };
 use ph_money::{Amount, Currency};
 use ph_rows::ListView;
@@ -83,7 +83,7 @@ fn standing(alloc: Global, status: IntentStatus) -> Result<Intent, NoMemory> {
 // The charge of 2000 usd that holds it.
 fn holding(alloc: Global) -> Result<Charge, NoMemory> {
     Ok(Charge {
-        intent: 2,
+        sort: ChargeSort::Card(2),
         amount: Amount::new(2000),
         amount_captured: Amount::new(0),
         amount_refunded: Amount::new(0),

@@ -28,7 +28,7 @@ fn are_rows_of(
         (place, place, 1)
     );
     let made = first.item.refund().ok_or("no refund")?;
-    assert_eq!(rt; (made.charge, made.intent), (6, 2));
+    assert_eq!(rt; (made.charge, made.intent), (6, Some(2)));
     assert_eq!(rt; made.amount.units(), amount);
     assert_eq!(rt; made.currency, Currency::Usd);
     assert_eq!(rt; Some(made.transaction), place.checked_add(1));

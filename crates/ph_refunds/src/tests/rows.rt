@@ -5,8 +5,8 @@ use ph_base::{Bytes, Method, NoMemory};
 use ph_calls::CreateRefund;
 use ph_errors::Refusal;
 use ph_items::{
-    Capture, CaptureMethod, Charge, ChargeStatus, Dispute, DisputeStatus, Event, EventKind, Intent,
-    IntentStatus, Item, Metadata, Txn, TxnSource, TxnType,
+    Capture, CaptureMethod, Charge, ChargeSort, ChargeStatus, Dispute, DisputeStatus, Event,
+    EventKind, Intent, IntentStatus, Item, Metadata, Txn, TxnSource, TxnType,
 };
 use ph_money::{Amount, Currency, SignedAmount};
 use ph_rows::{Batch, ListView, Row, View};
@@ -45,7 +45,7 @@ fn charge(alloc: Global, captured: u64, dispute: Option<u64>) -> Result<Item, Fa
         available_on: DUE,
     };
     Ok(Item::Charge(Charge {
-        intent: 2,
+        sort: ChargeSort::Card(2),
         amount: Amount::new(2000),
         amount_captured: Amount::try_new(captured).ok_or("too much")?,
         amount_refunded: Amount::new(0),
@@ -76,7 +76,7 @@ fn captured() -> Item {
 fn dispute(status: DisputeStatus) -> Item {
     Item::Dispute(Dispute {
         charge: 6,
-        intent: 2,
+        intent: Some(2),
         amount: Amount::new(2000),
         currency: Currency::Usd,
         status,

@@ -55,7 +55,7 @@ pub fn event(sort: EventKind, object: u64, key: Option<Bytes>) -> Item {
 // A charge of 2000 usd of the intent 2, captured with the transaction 7 and of which 500 were refunded.
 pub fn charge(alloc: Global) -> Result<Charge, NoMemory> {
     Ok(Charge {
-        intent: 2,
+        sort: ChargeSort::Card(2),
         amount: Amount::new(2000),
         amount_captured: Amount::new(2000),
         amount_refunded: Amount::new(500),

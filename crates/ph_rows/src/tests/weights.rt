@@ -57,7 +57,7 @@ fn weights_of_money(rt: HostRuntime) -> Result<(), Fail> {
     let alloc = rt.alloc();
     let refund = Refund {
         charge: 6,
-        intent: 2,
+        intent: Some(2),
         amount: Amount::new(500),
         currency: Currency::Usd,
         reason: Some(RefundReason::Duplicate),
@@ -66,7 +66,7 @@ fn weights_of_money(rt: HostRuntime) -> Result<(), Fail> {
     };
     let dispute = Dispute {
         charge: 6,
-        intent: 2,
+        intent: Some(2),
         amount: Amount::new(2000),
         currency: Currency::Usd,
         status: DisputeStatus::UnderReview,
