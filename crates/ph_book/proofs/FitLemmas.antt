@@ -45,6 +45,7 @@ use Rattle.ph_calls.specs.declared.call.CaptureIntent.{CaptureIntent}
 use Rattle.ph_calls.specs.declared.call.CreateIntent.{CreateIntent}
 use Rattle.ph_calls.specs.declared.call.CreateRefund.{CreateRefund}
 use Rattle.ph_calls.specs.declared.call.UpdateIntent.{UpdateIntent}
+use Rattle.ph_facts.specs.Keeps.{most_rows}
 use Rattle.ph_facts.specs.Outcomes.{Outcome, Refuses, Adds}
 use Rattle.ph_calls.specs.Reading.{reading_of}
 use Rattle.ph_items.specs.Accounts.{platform}
@@ -95,7 +96,7 @@ events_few key at rows count (told ∷ announced) = ap suc (events_few key at ro
 -- rows that may stand behind so many: numbered on from them, and few
 pub record Continues (count : ℕ) (rows : List Row) : Type 0 where
   pub placed : ArePlaced count rows
-  pub few : length rows ≤ 16
+  pub few : length rows ≤ most_rows
 
 -- the items of rows are such
 abbrev pub AllAre : (Item → Type 0) → List Row → Type 0
@@ -163,7 +164,7 @@ small_any : (P : Item → Type 0) (count most : ℕ) (batch : BatchState) → Is
 small_any P count most batch small = record { began = small.began; placed = small.placed; few = small.few; items = any_all P batch.rows small.items }
 
 -- what a small batch makes
-pub small_continues : (P : Item → Type 0) (count : ℕ) (batch : BatchState) → IsSmall P count 16 batch → Continues count (made_rows None batch)
+pub small_continues : (P : Item → Type 0) (count : ℕ) (batch : BatchState) → IsSmall P count most_rows batch → Continues count (made_rows None batch)
 small_continues P count batch small =
     let events : List Row = event_rows None batch.at batch.rows (last_place batch) batch.announced in
     let last : last_place batch ≡ count + length batch.rows = ap (λ n. n + length batch.rows) small.began in
@@ -222,12 +223,12 @@ attempt_asked account intent amount currency method batch order e =
 -- an error that can be answered; or a small batch, whose attempt is asked under its last row
 abbrev pub IsFit : ℕ → Outcome → Type 0
 IsFit count (Refuses error) = IsAnswered error
-IsFit count (Adds object batch) = IsSmall IsAny count 16 batch × IsAsked batch
+IsFit count (Adds object batch) = IsSmall IsAny count most_rows batch × IsAsked batch
 
 -- a small batch with no attempt is fit
-no_attempt_fit : (count most object : ℕ) (batch : BatchState) → IsSmall IsNoAttempt count most batch → most ≤ 16 → IsFit count (Adds object batch)
+no_attempt_fit : (count most object : ℕ) (batch : BatchState) → IsSmall IsNoAttempt count most batch → most ≤ most_rows → IsFit count (Adds object batch)
 no_attempt_fit count most object batch small few =
-    (small_any IsNoAttempt count 16 batch (small_most IsNoAttempt count most 16 batch small few), no_attempt_asked batch small.items)
+    (small_any IsNoAttempt count most_rows batch (small_most IsNoAttempt count most most_rows batch small few), no_attempt_asked batch small.items)
 
 -- a payment intent's operation: refused where there is none, or by its status, or what it makes
 found_fit : (count : ℕ) (operation : ℕ → Intent → Outcome) (found : Option Row) → ((object : ℕ) (intent : Intent) → IsFit count (operation object intent))
@@ -403,7 +404,7 @@ capture_quiet rows now place c =
     (amount_quiet rows (length rows) now place platform (unwrap_or c.amount_to_capture intent.amount_capturable) object intent))
 
 -- with the opening of a dispute
-opened_fit : (rows : List Row) (count most : ℕ) (outcome : Outcome) → IsQuiet count most outcome → most + 4 ≤ 16 → IsFit count (and_opened rows outcome)
+opened_fit : (rows : List Row) (count most : ℕ) (outcome : Outcome) → IsQuiet count most outcome → most + 4 ≤ most_rows → IsFit count (and_opened rows outcome)
 opened_fit rows count most (Refuses error) quiet few = quiet
 opened_fit rows count most (Adds object batch) quiet few =
     no_attempt_fit count (most + 4) object _ (due_small IsNoAttempt (λ content is. is) rows count most object batch quiet) few
@@ -479,7 +480,7 @@ dispute_found count operation (Some row) fit = inside (dispute_in row.item)
     inside None = answered (NoSuchObject (codes "id"))
     inside (Some dispute) = fit row dispute
 
-open_fit : (count most object : ℕ) (status : DisputeStatus) (batch : BatchState) → IsSmall IsNoAttempt count most batch → most ≤ 16
+open_fit : (count most object : ℕ) (status : DisputeStatus) (batch : BatchState) → IsSmall IsNoAttempt count most batch → most ≤ most_rows
     → IsFit count (disputes.if_open status object batch)
 open_fit count most object status batch small few =
     chosen (IsFit count) (disputes.is_closed status) (Refuses (error_of DisputeClosed)) (Adds object batch) (answered DisputeClosed)

@@ -35,7 +35,7 @@ use Rattle.ph_calls.specs.Check.{error_in}
 use Rattle.ph_calls.specs.Clock.{set_clock, set_clock_error}
 use Rattle.ph_calls.specs.Fit.{IsFit}
 use Rattle.ph_calls.specs.Intents.{create_intent, create_intent_error}
-use Rattle.ph_facts.specs.Keeps.{AreUtf8}
+use Rattle.ph_items.specs.Weights.{AreUtf8}
 use Rattle.ph_calls.specs.Reading.{call_of, reading_at, reading_by, reading_of, unless_error}
 use Rattle.ph_calls.specs.Refunds.{create_refund, create_refund_error}
 use Rattle.ph_calls.specs.Routes.{Route, Nowhere, To, route_in}

@@ -5,7 +5,7 @@ use Rattle.ph_items.specs.Weights.{with_text, method_text}
 use Rattle.ph_kinds.specs.Kept.{named_texts}
 use Rattle.ph_calls.specs.declared.call.Call.{Call}
 use Rattle.ph_calls.specs.declared.call.Call.TheVariants as call
-use Rattle.ph_facts.specs.Keeps.{AreUtf8}
+use Rattle.ph_items.specs.Weights.{AreUtf8}
 
 -- the texts of a call that its rows keep
 abbrev pub kept_texts : Call → List (List ℕ)

@@ -5,31 +5,34 @@ use Rattle.std.specs.List.{list_all, list_any}
 use Rattle.std.specs.Str.{is_utf8}
 use Rattle.std.proofs.lemmas.Bool.{cond_both, eq-eqb, false≢true, ne_eqb}
 use Rattle.std.proofs.lemmas.List.{append-nil, length-append}
-use Rattle.ph_facts.specs.Keeps.{AddsSound, IsReady, KeepsSound, batch_after, no_texts}
-use Rattle.ph_facts.specs.Outcomes.{Refuses, Adds}
+use Rattle.ph_base.specs.declared.ids.Kind.TheVariants as kind
 use Rattle.ph_errors.specs.Table.{error_of, DisputeClosed}
-use Rattle.ph_rows.specs.declared.rows.Row.{Row}
 use Rattle.ph_items.specs.declared.disputes.Dispute.{Dispute}
 use Rattle.ph_items.specs.declared.disputes.DisputeStatus.{DisputeStatus}
 use Rattle.ph_items.specs.declared.disputes.DisputeStatus.TheVariants as status
 use Rattle.ph_items.specs.declared.event_kinds.EventKind.TheVariants as event
 use Rattle.ph_items.specs.declared.items.Item.{Item}
 use Rattle.ph_items.specs.declared.items.Item.TheVariants as item
-use Rattle.ph_rows.specs.Batches.{BatchState, last_place, next_row}
-use Rattle.ph_facts.specs.Entering.{IsToldBy, MayBeEntered}
 use Rattle.ph_items.specs.Kinds.{kind_of}
-use Rattle.ph_facts.specs.Origins.{HasOrigin}
-use Rattle.ph_rows.specs.Rows.{latest_of}
-use Rattle.ph_facts.specs.Sound.{AllMayFollow, IsInOrder, MayFollow, with_next}
-use Rattle.ph_facts.specs.Amounts.{given_move, moves_in, moves_of, taken_move}
-use Rattle.ph_rows.specs.Views.{ViewState}
 use Rattle.ph_items.specs.Weights.{texts_of}
-use Rattle.ph_rows.proofs.RowLemmas.{latest_of-last, is_version, latest_of-apart, row_at-before, row_at_within}
-use Rattle.ph_facts.proofs.AmountLemmas.{sums_beside}
-use Rattle.ph_facts.proofs.FollowLemmas.{first_follows, further_follows, origin_stands}
+use Rattle.ph_rows.specs.declared.rows.Row.{Row}
+use Rattle.ph_rows.specs.Batches.{BatchState, last_place, next_row}
+use Rattle.ph_rows.specs.Rows.{row_at, latest_of}
+use Rattle.ph_rows.specs.Views.{ViewState}
+use Rattle.ph_rows.proofs.RowLemmas.{is_version, latest_of-apart, latest_of-front, latest_of-last, row_at-before, row_at_within}
+use Rattle.ph_facts.specs.Amounts.{given_move, moved, moves_in, moves_of, taken_move}
+use Rattle.ph_facts.specs.Entering.{IsToldBy, MayBeEntered}
+use Rattle.ph_facts.specs.Keeps.{AddsSound, IsReady, KeepsSound, batch_after, no_texts}
+use Rattle.ph_facts.specs.Order.{AllMayFollow, IsInOrder, MayFollow, with_next}
+use Rattle.ph_facts.specs.Origins.{IsOrigin}
+use Rattle.ph_facts.specs.Outcomes.{Refuses, Adds}
+use Rattle.ph_facts.specs.Tallies.{SaysSum}
+use Rattle.ph_facts.proofs.AmountLemmas.{moved_sum}
+use Rattle.ph_facts.proofs.FollowLemmas.{first_follows, further_follows}
 use Rattle.ph_facts.proofs.HeldLemmas.{held_beside}
-use Rattle.ph_facts.proofs.MoveLemmas.{moves_of_version}
-use Rattle.ph_facts.proofs.SoundLemmas.{order_with, order_with_all}
+use Rattle.ph_facts.proofs.LawLemmas.{laws_of_dispute}
+use Rattle.ph_facts.proofs.OrderLemmas.{order_with, order_with_all, origin_stands, texts_stand}
+use Rattle.ph_facts.proofs.TallyLemmas.{sum_known}
 use Rattle.ph_disputes.specs.Answers.{answered_dispute, evidence_of, evidence_outcome, given_txn, verdict_on, with_evidence, with_verdict}
 use Rattle.ph_disputes.specs.Closing.{close_of, close_outcome, lost_dispute, with_closed, with_version}
 use Rattle.ph_disputes.specs.Finding.{if_open, is_closed}
@@ -50,7 +53,7 @@ module _ (state : ViewState) (entry : ℕ) (row : Row) (dispute after : Dispute)
   abbrev begun : BatchState
   begun = batch_after state entry
 
-  room : length state.rows + 16 < 10 ^ 16
+  room : length state.rows + 64 < 10 ^ 16
   room = ready.room
 
   order : IsInOrder state
@@ -62,11 +65,14 @@ module _ (state : ViewState) (entry : ℕ) (row : Row) (dispute after : Dispute)
   version_follows : MayFollow state version
   version_follows =
       further_follows state row version order found.stands
-      (record { few = omega arith; place = omega arith; at = refl; texts = texts })
+      (record { few = omega arith; place = omega arith; at = refl })
+      (record { texts = texts; within = tt; origins = tt; silent = λ event is. absurd (cc) })
       (record { object = refl; account = refl; kind = sym (ap kind_of found.is) }) refl
 
   taken : moves_of row.object state.rows ≡ taken_move dispute.amount ∷ []
-  taken = ready.sound.disputes row.object row dispute found.latest found.is ∙ open_moves dispute.status dispute.amount open_still
+  taken =
+      sym (ready.sound.laws.moved row.object row (moves_in dispute.status dispute.amount) found.latest (ap moved.said found.is))
+      ∙ open_moves dispute.status dispute.amount open_still
 
   alone_in_order : IsInOrder (record state { rows = state.rows ++ version ∷ [] })
   alone_in_order = order_with state version order version_follows
@@ -74,14 +80,17 @@ module _ (state : ViewState) (entry : ℕ) (row : Row) (dispute after : Dispute)
   -- it is told, or not
   pub version_enters : taken_move dispute.amount ∷ [] ≡ moves_in after.status after.amount
       → MayBeEntered state (with_version row after begun)
-  version_enters same = record {
+  version_enters same =
+    let says : SaysSum moved row.object (state.rows ++ version ∷ []) =
+    sum_known moved row.object state.rows (version ∷ []) version (moves_in after.status after.amount) moved_sum
+    (latest_of-front state.rows [] version refl) refl
+    (sym (append-nil (moves_of row.object state.rows) ∙ taken ∙ same)) in record {
     began = refl;
     at = refl;
     follow = (version_follows, tt);
-    charges = sums_beside state.rows (version ∷ []) refl ready.sound.charges;
-    held = held_beside state (version ∷ []) order alone_in_order (tt, tt) ready.sound.held;
-    disputes = moves_of_version state.rows [] version after ready.sound.disputes refl refl (λ other differs. refl)
-        (append-nil (moves_of row.object state.rows) ∙ taken ∙ same);
+    laws = laws_of_dispute state.rows (version ∷ []) row.object ready.sound.laws says
+        (λ other differs. ap (λ (b : Bool). b || false) (ne_eqb row.object other (λ alike. differs (sym alike)))) refl
+        (held_beside state (version ∷ []) order alone_in_order (tt, tt) ready.sound.laws.held);
     told = tt;
   }
 
@@ -99,9 +108,7 @@ module _ (state : ViewState) (entry : ℕ) (row : Row) (dispute after : Dispute)
         began = refl;
         at = refl;
         follow = enters.follow;
-        charges = enters.charges;
-        held = enters.held;
-        disputes = enters.disputes;
+        laws = enters.laws;
         told = (told_of_version [] refl, tt);
       }
 
@@ -117,16 +124,15 @@ module _ (state : ViewState) (entry : ℕ) (row : Row) (dispute after : Dispute)
   count_second : length second.rows ≡ length state.rows + 1
   count_second = length-append state.rows (version ∷ [])
 
-  source : HasOrigin second.rows (Some (record { kind = kind_of (item.Dispute dispute); number = row.object }))
+  source : IsOrigin (row_at row.object second.rows) (record { kind = kind.Dispute; number = row.object })
   source =
-      subst (λ (content : Item). HasOrigin second.rows (Some (record { kind = kind_of content; number = row.object }))) found.is
-      (origin_stands second row alone_in_order (row_at-before row.place state.rows (version ∷ []) row found.stands))
+      origin_stands second row (item.Dispute dispute) alone_in_order (row_at-before row.place state.rows (version ∷ []) row found.stands) found.is
 
   given_follows : MayFollow second given
   given_follows =
       let counted = count_second in
-      first_follows second given (record { few = omega arith; place = omega arith; at = refl; texts = refl }) (omega arith)
-      source (λ event is. absurd (cc))
+      first_follows second given (record { few = omega arith; place = omega arith; at = refl }) (omega arith)
+      (record { texts = refl; within = tt; origins = (source, tt); silent = λ event is. absurd (cc) })
 
   both_follow : AllMayFollow state (version ∷ given ∷ [])
   both_follow = (version_follows, (given_follows, tt))
@@ -143,8 +149,16 @@ module _ (state : ViewState) (entry : ℕ) (row : Row) (dispute after : Dispute)
   no_version : list_any (is_version row.object) (given ∷ []) ≡ false
   no_version = ap (λ (b : Bool). b || false) (ne_eqb given.object row.object given_is_later)
 
-  given_back : moves_of row.object (given ∷ []) ≡ given_move dispute.amount ∷ []
+  given_back : moves_of row.object (version ∷ given ∷ []) ≡ given_move dispute.amount ∷ []
   given_back = ap (λ (b : Bool). cond b (given_move dispute.amount ∷ []) [] ++ []) (eq-eqb row.object row.object refl)
+
+  won_says : taken_move dispute.amount ∷ given_move dispute.amount ∷ [] ≡ moves_in after.status after.amount
+      → SaysSum moved row.object (state.rows ++ version ∷ given ∷ [])
+  won_says same =
+      sum_known moved row.object state.rows (version ∷ given ∷ []) version (moves_in after.status after.amount) moved_sum
+      (latest_of-front state.rows (given ∷ []) version no_version) refl
+      (sym (ap (λ front. front ++ moves_of row.object (version ∷ given ∷ [])) taken
+      ∙ ap (λ back. (taken_move dispute.amount ∷ []) ++ back) given_back ∙ same))
 
   pub won_enters : taken_move dispute.amount ∷ given_move dispute.amount ∷ [] ≡ moves_in after.status after.amount
       → MayBeEntered state (with_verdict status.Won row dispute (with_version row after begun))
@@ -152,11 +166,9 @@ module _ (state : ViewState) (entry : ℕ) (row : Row) (dispute after : Dispute)
     began = refl;
     at = refl;
     follow = both_follow;
-    charges = sums_beside state.rows (version ∷ given ∷ []) refl ready.sound.charges;
-    held = held_beside state (version ∷ given ∷ []) order both_in_order (tt, (tt, tt)) ready.sound.held;
-    disputes = moves_of_version state.rows (given ∷ []) version after ready.sound.disputes refl no_version
-        (λ other differs. ap (λ (b : Bool). b || false) (ne_eqb row.object other (λ alike. differs (sym alike))))
-        (ap (λ front. front ++ moves_of row.object (given ∷ [])) taken ∙ ap (λ back. (taken_move dispute.amount ∷ []) ++ back) given_back ∙ same);
+    laws = laws_of_dispute state.rows (version ∷ given ∷ []) row.object ready.sound.laws (won_says same)
+        (λ other differs. ap (λ (b : Bool). b || ((b || false) || false)) (ne_eqb row.object other (λ alike. differs (sym alike)))) refl
+        (held_beside state (version ∷ given ∷ []) order both_in_order (tt, (tt, tt)) ready.sound.laws.held);
     told = (told_of_version (given ∷ []) no_version, tt);
   }
 
@@ -178,8 +190,7 @@ close_keeps state entry account call ready texts =
     kept : (row : Row) (dispute : Dispute) → IsFound state.rows row dispute
         → list_all is_utf8 (texts_of (item.Dispute dispute)) ≡ true
     kept row dispute found =
-        subst (λ (content : Item). list_all is_utf8 (texts_of content) ≡ true) found.is
-        (ready.sound.order.texts row.place row found.stands)
+        texts_stand state row (item.Dispute dispute) ready.sound.order found.stands found.is
 
 -- what follows from a verdict may be entered
 verdict_enters : (state : ViewState) (entry : ℕ) (row : Row) (dispute after : Dispute) (now : DisputeStatus) → IsReady state

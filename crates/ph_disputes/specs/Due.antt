@@ -9,7 +9,7 @@ use Rattle.ph_items.specs.declared.payment_methods.PaymentMethod.{PaymentMethod}
 use Rattle.ph_rows.specs.Batches.{BatchState}
 use Rattle.ph_items.specs.Items.{latest_charge_in}
 use Rattle.ph_rows.specs.Rows.{latest_of}
-use Rattle.ph_facts.specs.Sound.{charge_of}
+use Rattle.ph_facts.specs.Held.{charge_of}
 use Rattle.ph_disputes.specs.Opening.{open_of}
 
 -- whether what a method pays is disputed

@@ -108,3 +108,30 @@ laws_of_charge rows more charge laws says apart quiet held = record {
   moved = sums_stay moved rows more moved_sum quiet laws.moved;
   held = held;
 }
+
+-- ---- the amounts of one dispute
+
+-- the laws are kept with rows that have to do with what one dispute has moved alone, which it says, and with no charge
+pub laws_of_dispute : (rows more : List Row) (dispute : ℕ) → KeepLaws rows → SaysSum moved dispute (rows ++ more)
+    → ((other : ℕ) → (other ≡ dispute → ⊥) → list_any (touches moved other) more ≡ false) → list_any is_of_charges more ≡ false
+    → AreHeld (rows ++ more) → KeepLaws (rows ++ more)
+laws_of_dispute rows more dispute laws says apart quiet held = record {
+  captured = sums_stay captured rows more captured_sum (first_of_none (speaks captured) (speaks refunded) more quiet) laws.captured;
+  refunded = sums_stay refunded rows more refunded_sum (second_of_none (speaks captured) (speaks refunded) more quiet) laws.refunded;
+  moved = sums_of_one moved rows more dispute moved_sum laws.moved says apart;
+  held = held;
+}
+
+-- and with rows that have to do with one charge and one dispute alone, which say their amounts
+pub laws_of_both : (rows more : List Row) (charge dispute : ℕ) → KeepLaws rows → SaysSums charge (rows ++ more)
+    → ((other : ℕ) → (other ≡ charge → ⊥) → list_any (touches_charge other) more ≡ false) → SaysSum moved dispute (rows ++ more)
+    → ((other : ℕ) → (other ≡ dispute → ⊥) → list_any (touches moved other) more ≡ false) → AreHeld (rows ++ more)
+    → KeepLaws (rows ++ more)
+laws_of_both rows more charge dispute laws charge_says charge_apart dispute_says dispute_apart held = record {
+  captured = sums_of_one captured rows more charge captured_sum laws.captured charge_says.captured
+      (λ other differs. first_of_none (touches captured other) (touches refunded other) more (charge_apart other differs));
+  refunded = sums_of_one refunded rows more charge refunded_sum laws.refunded charge_says.refunded
+      (λ other differs. second_of_none (touches captured other) (touches refunded other) more (charge_apart other differs));
+  moved = sums_of_one moved rows more dispute moved_sum laws.moved dispute_says dispute_apart;
+  held = held;
+}

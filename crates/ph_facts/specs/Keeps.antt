@@ -1,17 +1,12 @@
 -- What a call adds may be entered after sound rows, which stay sound.
-use Rattle.std.specs.Prelude.{◌≡◌, ℕ, ◌+◌, ◌^◌, ◌<◌, true, List, [], length}
-use Rattle.std.specs.List.{list_all}
-use Rattle.std.specs.Str.{is_utf8}
+use Rattle.std.specs.Prelude.{◌≡◌, ℕ, ◌+◌, ◌^◌, ◌<◌, List, [], length}
+use Rattle.ph_items.specs.Weights.{AreUtf8}
 use Rattle.ph_facts.specs.Outcomes.{Outcome, Refuses, Adds}
 use Rattle.ph_rows.specs.declared.rows.Row.{Row}
 use Rattle.ph_rows.specs.Batches.{BatchState, empty_batch}
 use Rattle.ph_facts.specs.Entering.{MayBeEntered}
 use Rattle.ph_facts.specs.Sound.{IsSound}
 use Rattle.ph_rows.specs.Views.{ViewState}
-
--- the texts are UTF-8
-abbrev pub AreUtf8 : List (List ℕ) → Type 0
-AreUtf8 texts = list_all is_utf8 texts ≡ true
 
 -- a call of which no text is kept
 abbrev pub no_texts : {C : Type 0} → C → List (List ℕ)

@@ -69,7 +69,7 @@ create_keeps state entry account call ready texts =
     let intent = new_intent call (first_status call.payment_method) in
     let kept = new_texts call (first_status call.payment_method) texts in
     told_enters state entry account (last_place (batch_after state entry) + 1) intent event.IntentCreated ready
-    (created_underway state entry account intent ready kept) refl
+    (created_underway state entry account intent ready kept tt) refl
     (λ waits. absurd (never_waits call.payment_method waits))
 
 pub create_confirmed_keeps : KeepsSound create_texts create_confirmed_outcome
@@ -80,7 +80,7 @@ create_confirmed_keeps state entry account call ready texts = at call.payment_me
     at None = tt
     at (Some method) =
         created_enters state entry account (new_intent call status.Processing) method.method ready
-        (new_texts call status.Processing texts) (λ waits. absurd (cc))
+        (new_texts call status.Processing texts) tt (λ waits. absurd (cc))
 
 -- ---- the calls that change a payment intent, its texts as they were
 
@@ -191,7 +191,7 @@ update_keeps state entry account call ready texts =
     keeps_allowed state (λ status. update_with account batch row.object (updated status))
     (next_status intent.status (step_of call))
     (λ status to. with_updated row.object (updated status)
-    (found_underway state entry account row intent (updated status) ready found (updated_texts call intent status texts kept))
+    (found_underway state entry account row intent (updated status) ready found (updated_texts call intent status texts kept) refl)
     (found_waits state account row intent (updated status) ready.sound found
     (record { charge = refl; amount = omega arith; waits = waited_before intent.status (step_of call) status to }))))
   where

@@ -11,7 +11,7 @@ use Rattle.ph_items.specs.declared.metadata_pairs.MetadataPair.{MetadataPair}
 use Rattle.ph_items.specs.declared.payment_methods.PaymentMethod.{PaymentMethod}
 use Rattle.ph_items.specs.Metadata.{without_pair}
 use Rattle.ph_items.specs.Weights.{with_text, method_text, metadata_texts}
-use Rattle.ph_facts.specs.Keeps.{AreUtf8}
+use Rattle.ph_items.specs.Weights.{AreUtf8}
 use Rattle.ph_intents.specs.Metadata.{with_change, with_changes, merged_metadata}
 
 -- a text in front that may be there, and the others

@@ -1,5 +1,7 @@
 -- The texts of an item, and their lengths.
-use Rattle.std.specs.Prelude.{ℕ, ◌+◌, ◌^◌, ◌<◌, List, [], ◌∷◌, Option, None, Some, SomeIff, length}
+use Rattle.std.specs.Prelude.{◌≡◌, ℕ, ◌+◌, ◌^◌, ◌<◌, true, List, [], ◌∷◌, Option, None, Some, SomeIff, length}
+use Rattle.std.specs.List.{list_all}
+use Rattle.std.specs.Str.{is_utf8}
 use Rattle.ph_items.specs.declared.items.Item.{Item}
 use Rattle.ph_items.specs.declared.items.Item.TheVariants as item
 use Rattle.ph_items.specs.declared.metadata_pairs.MetadataPair.{MetadataPair}
@@ -34,6 +36,10 @@ texts_of (item.Refund refund) = metadata_texts refund.metadata
 texts_of (item.Dispute dispute) = with_text dispute.evidence []
 texts_of (item.Txn txn) = []
 texts_of (item.Event event) = with_text event.key []
+
+-- the texts are UTF-8
+abbrev pub AreUtf8 : List (List ℕ) → Type 0
+AreUtf8 texts = list_all is_utf8 texts ≡ true
 
 -- the lengths of texts together
 abbrev pub total_length : List (List ℕ) → ℕ

@@ -3,6 +3,7 @@ use Rattle.std.specs.Prelude.{slice_get, ◌==◌, ◌||◌}
 use Rattle.std.proofs.Common.{◌≡◌, ℕ, zero, suc, ◌+◌, ◌-◌, ◌≤◌, ◌<◌, ◌⊎◌, inl, inr, Bool, true, false, cond, eqb, List, [], ◌∷◌, ◌++◌, Option, None, Some, length, sym, refl, ap, ◌∙◌, subst, arith}
 use Rattle.std.specs.List.{fold, list_any}
 use Rattle.std.proofs.lemmas.Bool.{cond-false, cond-true, eq-eqb, eqb-false, eqb-true, ne_eqb}
+use Rattle.std.proofs.lemmas.List.{append_assoc}
 use Rattle.std.proofs.lemmas.List.Sums.{fold_push}
 use Rattle.std.proofs.lemmas.Option.{slice_get_within}
 use Rattle.ph_rows.specs.declared.rows.Row.{Row}
@@ -157,3 +158,15 @@ pub latest_of-last : (rows : List Row) (new : Row) → latest_of new.object (row
 latest_of-last rows new =
     fold_push (later_version new.object) None rows new
     ∙ cond-true (eqb new.object new.object) (Some new) (latest_of new.object rows) (eq-eqb new.object new.object refl)
+
+-- a row is the present version of its object where none behind it is a version of that
+pub latest_of-front : (rows more : List Row) (new : Row) → list_any (is_version new.object) more ≡ false
+    → latest_of new.object (rows ++ new ∷ more) ≡ Some new
+latest_of-front rows more new apart =
+    ap (latest_of new.object) (sym (append_assoc rows (new ∷ []) more))
+    ∙ latest_of-apart new.object (rows ++ new ∷ []) more apart ∙ latest_of-last rows new
+
+-- and where it stands behind others
+pub latest_of-behind : (rows more : List Row) (new : Row) → latest_of new.object (rows ++ (more ++ new ∷ [])) ≡ Some new
+latest_of-behind rows more new =
+    ap (latest_of new.object) (sym (append_assoc rows more (new ∷ []))) ∙ latest_of-last (rows ++ more) new
