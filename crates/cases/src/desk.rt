@@ -1,7 +1,7 @@
 //! A book, and the tickets in hand.
 ghost use Rattle.std.specs.Prelude.{◌≡◌, ◌<◌, ◌≤◌, true, false, [], length, OnOk, OnErr, IfSome};
 ghost use Rattle.ph_base.specs.declared.acquirer.Why.TheVariants as why_given;
-ghost use Rattle.ph_rows.specs.Sound.{clock_limit};
+ghost use Rattle.ph_items.specs.Clocks.{clock_limit};
 ghost use Rattle.ph_book.specs.State.{entered};
 ghost use Rattle.ph_book.specs.Entries.{finish_entry, park_entry};
 ghost use Rattle.ph_book.specs.Tickets.{Holds};

@@ -12,7 +12,8 @@ use ph_base::{Bytes, read_number};
 use ph_book::{Book, Setup};
 use ph_http::{Raw, Reply};
 use ph_money::Currency;
-use ph_rows::{CLOCK_LIMIT, View};
+use ph_items::CLOCK_LIMIT;
+use ph_rows::View;
 use std::alloc::{AllocError, Global};
 
 const KEY: &str = "sk_test_payhost";

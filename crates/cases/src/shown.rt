@@ -5,10 +5,8 @@
 
 use ph_base::{Bytes, Decline, Method};
 use ph_money::{Amount, Currency, SignedAmount};
-use ph_rows::{
-    Account, AccountType, Attempt, AttemptState, Charge, Dispute, Event, Intent, Item, Metadata,
-    Order, PaymentError, PaymentMethod, Refund, Row, Txn,
-};
+use ph_items::{Account, AccountType, Attempt, AttemptState, Charge, Dispute, Event, Intent, Item, Metadata, Order, PaymentError, PaymentMethod, Refund, Txn};
+use ph_rows::Row;
 use std::alloc::{AllocError, Global};
 
 const DIGITS: &[u8; 16] = b"0123456789abcdef";
@@ -259,7 +257,8 @@ fn add_charge(alloc: Global, shown: &mut Vec<u8>, charge: &Charge) -> Result<(),
     add_amount(alloc, shown, charge.amount, charge.currency)?;
     add_part(alloc, shown, b"captured", charge.amount_captured)?;
     add_part(alloc, shown, b"refunded", charge.amount_refunded)?;
-    add_named_number(alloc, shown, b"intent", charge.intent)?;
+    add_link(alloc, shown, b"intent", charge.sort.intent())?;
+    add_link(alloc, shown, b"transfer", charge.sort.transfer())?;
     add_method(shown, &charge.payment_method)?;
     add_capture(alloc, shown, charge)?;
     add_link(alloc, shown, b"dispute", charge.dispute)?;
@@ -272,7 +271,7 @@ fn add_refund(alloc: Global, shown: &mut Vec<u8>, refund: &Refund) -> Result<(),
     shown.extend_from_slice(b" refund")?;
     add_amount(alloc, shown, refund.amount, refund.currency)?;
     add_named_number(alloc, shown, b"charge", refund.charge)?;
-    add_named_number(alloc, shown, b"intent", refund.intent)?;
+    add_link(alloc, shown, b"intent", refund.intent)?;
     add_named_number(alloc, shown, b"txn", refund.transaction)?;
     match refund.reason {
         Some(reason) => add_named_word(shown, b"reason", reason.text())?,
@@ -286,7 +285,7 @@ fn add_dispute(alloc: Global, shown: &mut Vec<u8>, dispute: &Dispute) -> Result<
     add_word(shown, dispute.status.text())?;
     add_amount(alloc, shown, dispute.amount, dispute.currency)?;
     add_named_number(alloc, shown, b"charge", dispute.charge)?;
-    add_named_number(alloc, shown, b"intent", dispute.intent)?;
+    add_link(alloc, shown, b"intent", dispute.intent)?;
     add_text(shown, b"evidence", &dispute.evidence)
 }
 

@@ -6,7 +6,7 @@ use Rattle.std.proofs.lemmas.Bool.Decides.{nat_tests}
 use Rattle.std.proofs.lemmas.List.{append-nil}
 use Rattle.std.proofs.lemmas.List.Folds.{list_all-append}
 use Rattle.ph_attempts.specs.declared.flights.Flight.{Flight}
-use Rattle.ph_rows.specs.declared.orders.Order.{Order}
+use Rattle.ph_items.specs.declared.orders.Order.{Order}
 use Rattle.ph_attempts.specs.declared.flights.Attempt.{Attempt}
 use Rattle.ph_attempts.specs.declared.flights.Attempt.TheVariants.{Live, Parked}
 use Rattle.ph_attempts.specs.Attempts.{Step, Begins, Resumes, Parks, Settles, entry_of, first_parked, has_reference, is_parked, reference_in, reference_of, without}

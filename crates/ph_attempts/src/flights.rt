@@ -1,7 +1,7 @@
 //! Live runs and their tickets.
 ghost use Rattle.std.specs.Prelude.{◌≡◌};
 
-use ph_rows::Order;
+use ph_items::Order;
 use std::marker::Model;
 
 /// A live run of an attempt.

@@ -7,7 +7,7 @@ ghost use Rattle.ph_attempts.specs.declared.flights.Attempt.{Attempt};
 
 use crate::flights::{Attempt, Flight, Ticket};
 use ph_base::NoMemory;
-use ph_rows::Order;
+use ph_items::Order;
 use std::alloc::Global;
 use std::marker::Model;
 

@@ -2,7 +2,7 @@
 use Rattle.std.proofs.Common.{◌≡◌, ℕ, zero, suc, ◌+◌, ◌-◌, ◌^◌, ◌<◌, ◌≤◌, ◌⊎◌, inl, inr, List, [], ◌∷◌, ◌++◌, Option, Some, None, Result, Ok, Err, refl, sym, ap, ◌∙◌, subst, arith}
 use Rattle.std.proofs.lemmas.List.{append_assoc, append-nil}
 use Rattle.ph_base.specs.declared.acquirer.Ruling.{Ruling}
-use Rattle.ph_rows.specs.declared.orders.Order.{Order}
+use Rattle.ph_items.specs.declared.orders.Order.{Order}
 use Rattle.ph_bank.specs.declared.asking.Ask.{Ask}
 use Rattle.ph_bank.specs.declared.asking.Asked.TheVariants.{Pending, Ruled}
 use Rattle.ph_bank.specs.declared.driving.Driven.{Driven}

@@ -1,7 +1,7 @@
 -- A link in memory meets the rules of a link.
 use Rattle.std.proofs.Common.{◌≡◌, ℕ, ◌^◌, ◌<◌, ◌==◌, inr, Bool, true, false, List, [], ◌∷◌, ◌++◌, Option, Some, None, refl, arith}
 use Rattle.ph_base.specs.declared.acquirer.Ruling.{Ruling}
-use Rattle.ph_rows.specs.declared.orders.Order.{Order}
+use Rattle.ph_items.specs.declared.orders.Order.{Order}
 use Rattle.ph_bank.specs.declared.memory.Cue.{Cue}
 use Rattle.ph_bank.specs.declared.memory.Cue.TheVariants as cue
 use Rattle.ph_bank.specs.declared.memory.Decision.{Decision}

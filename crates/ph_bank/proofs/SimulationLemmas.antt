@@ -4,7 +4,7 @@ use Rattle.std.proofs.lemmas.Bool.Decides.{nat_tests}
 use Rattle.std.proofs.lemmas.List.{at_drop_more, length-append, length-drop, length-take, set_split, take_all, take_at, take_more_set}
 use Rattle.ph_base.specs.declared.acquirer.Method.{Method}
 use Rattle.ph_base.specs.declared.acquirer.Method.TheVariants as method
-use Rattle.ph_rows.specs.declared.orders.Order.{Order}
+use Rattle.ph_items.specs.declared.orders.Order.{Order}
 use Rattle.ph_bank.specs.declared.asking.Asked.{Asked}
 use Rattle.ph_bank.specs.declared.asking.AskFailed.{AskFailed}
 use Rattle.ph_bank.specs.declared.simulated.Remembered.{Remembered}

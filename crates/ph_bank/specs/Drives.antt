@@ -2,7 +2,7 @@
 use Rattle.std.specs.Prelude.{◌≡◌, ℕ, ◌≤◌, ◌⊎◌, List, [], ◌∷◌, ◌++◌, replicate, Some, Result, Ok, Err}
 use Rattle.ph_base.specs.declared.acquirer.Ruling.{Ruling}
 use Rattle.ph_bank.specs.declared.asking.AskFailed.{AskFailed}
-use Rattle.ph_rows.specs.declared.orders.Order.{Order}
+use Rattle.ph_items.specs.declared.orders.Order.{Order}
 use Rattle.ph_bank.specs.declared.asking.Ask.{Ask}
 use Rattle.ph_bank.specs.declared.asking.Asked.TheVariants.{Pending, Ruled}
 use Rattle.ph_bank.specs.declared.driving.Driven.{Driven}

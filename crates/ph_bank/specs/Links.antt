@@ -2,7 +2,7 @@
 use Rattle.std.specs.Prelude.{◌≡◌, ℕ, ◌≤◌, ◌⊎◌, List, [], ◌∷◌, ◌++◌, Option, Some, None, option_map, Result, Ok, Err}
 use Rattle.ph_base.specs.Counts.{Rose}
 use Rattle.ph_base.specs.declared.acquirer.Ruling.{Ruling}
-use Rattle.ph_rows.specs.declared.orders.Order.{Order}
+use Rattle.ph_items.specs.declared.orders.Order.{Order}
 use Rattle.ph_bank.specs.declared.asking.Ask.{Ask}
 use Rattle.ph_bank.specs.declared.asking.Asked.{Asked}
 use Rattle.ph_bank.specs.declared.asking.Asked.TheVariants.{Pending, Ruled}

@@ -1,7 +1,7 @@
 -- A link in memory, which follows a script.
 use Rattle.std.specs.Prelude.{ℕ, ◌==◌, ◌++◌, ◌≤◌, List, [], ◌∷◌, length, slice_get, unwrap_or, if◌then◌else◌, Option, Some, None, Result, Ok, Err}
 use Rattle.ph_base.specs.declared.acquirer.Ruling.{Ruling}
-use Rattle.ph_rows.specs.declared.orders.Order.{Order}
+use Rattle.ph_items.specs.declared.orders.Order.{Order}
 use Rattle.ph_bank.specs.declared.asking.Ask.{Ask}
 use Rattle.ph_bank.specs.declared.asking.Asked.{Asked}
 use Rattle.ph_bank.specs.declared.asking.Asked.TheVariants.{Pending, Ruled}

@@ -4,7 +4,7 @@ use Rattle.ph_base.specs.declared.acquirer.Method.{Method}
 use Rattle.ph_base.specs.declared.acquirer.Method.TheVariants as method
 use Rattle.ph_base.specs.declared.acquirer.Decline.TheVariants as decline
 use Rattle.ph_base.specs.declared.acquirer.Ruling.TheVariants.{Approved, Declined, Challenge}
-use Rattle.ph_rows.specs.declared.orders.Order.{Order}
+use Rattle.ph_items.specs.declared.orders.Order.{Order}
 use Rattle.ph_bank.specs.declared.asking.Asked.{Asked}
 use Rattle.ph_bank.specs.declared.asking.Asked.TheVariants.{Pending, Ruled}
 use Rattle.ph_bank.specs.declared.asking.AskFailed.{AskFailed}

@@ -4,7 +4,7 @@ use futures::Future;
 use futures::task::{Context, Poll};
 use ph_attempts::Ticket;
 use ph_base::Ruling;
-use ph_rows::Order;
+use ph_items::Order;
 
 /// An acquirer's answer to an ask.
 #[derive(Clone, Copy, Debug, PartialEq, Eq)]

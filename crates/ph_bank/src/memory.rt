@@ -6,7 +6,7 @@ ghost use Rattle.ph_bank.specs.Scripts.{after_ask, and_decision, answer_by, answ
 
 use crate::asking::{Acquirer, Ask, AskFailed, AskTurn, Asked};
 use ph_base::{NoMemory, Ruling};
-use ph_rows::Order;
+use ph_items::Order;
 use std::alloc::Global;
 use std::marker::Model;
 

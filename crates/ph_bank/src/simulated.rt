@@ -6,7 +6,7 @@ ghost use Rattle.ph_bank.specs.Simulation.{IsPlace, after_ask, answer_to, count_
 
 use crate::asking::{Acquirer, AskFailed, AskTurn, Asked};
 use ph_base::{Decline, Method, Ruling};
-use ph_rows::Order;
+use ph_items::Order;
 use std::marker::Model;
 
 /// How often a reference was asked.

@@ -10,22 +10,23 @@ use Rattle.ph_base.specs.declared.acquirer.Why.TheVariants as why
 use Rattle.ph_attempts.specs.declared.flights.Attempt as flights
 use Rattle.ph_attempts.specs.declared.flights.Flight.{Flight}
 use Rattle.ph_errors.specs.Table.{CardDeclined, NoSuchObject, error_of}
-use Rattle.ph_rows.specs.declared.attempts.Attempt.{Attempt}
+use Rattle.ph_items.specs.declared.attempts.Attempt.{Attempt}
 use Rattle.ph_rows.specs.declared.rows.Row.{Row}
 use Rattle.ph_charges.specs.Approvals.{charge_number, with_approved}
-use Rattle.ph_rows.specs.declared.charges.ChargeStatus.TheVariants as charge_status
+use Rattle.ph_items.specs.declared.charges.ChargeStatus.TheVariants as charge_status
 use Rattle.ph_charges.specs.Charges.{new_charge}
-use Rattle.ph_rows.specs.declared.intents.CaptureMethod.{CaptureMethod}
-use Rattle.ph_rows.specs.declared.intents.CaptureMethod.TheVariants as capture_method
-use Rattle.ph_rows.specs.declared.intents.Intent.{Intent}
-use Rattle.ph_rows.specs.declared.orders.Order.{Order}
+use Rattle.ph_items.specs.declared.intents.CaptureMethod.{CaptureMethod}
+use Rattle.ph_items.specs.declared.intents.CaptureMethod.TheVariants as capture_method
+use Rattle.ph_items.specs.declared.intents.Intent.{Intent}
+use Rattle.ph_items.specs.declared.orders.Order.{Order}
 use Rattle.ph_rows.specs.Batches.{BatchState, empty_batch, version_with}
-use Rattle.ph_rows.specs.Items.{attempt_in, intent_in}
+use Rattle.ph_items.specs.Items.{attempt_in, intent_in}
 use Rattle.ph_rows.specs.Rows.{latest_of}
 use Rattle.ph_http.specs.declared.message.Raw.{Raw}
 use Rattle.ph_http.specs.declared.message.Reply.{Reply}
 use Rattle.ph_http.specs.Replies.{is_status}
-use Rattle.ph_calls.specs.Outcomes.{Outcome, Refuses, Adds}
+use Rattle.ph_facts.specs.Keeps.{most_rows}
+use Rattle.ph_facts.specs.Outcomes.{Outcome, Refuses, Adds}
 use Rattle.ph_intents.specs.Attempts.{begun}
 use Rattle.ph_intents.specs.Settle.{settle_outcome, settle_row, settle_attempt, settle_intent, settle_both, with_charge, with_settled}
 use Rattle.ph_book.specs.declared.setup.Setup.{Setup}
@@ -99,17 +100,17 @@ row_settled rows count now place ruling None = nothing_settled count now place
 row_settled rows count now place ruling (Some row) = attempt_settled rows count now place ruling row (attempt_in row.item)
 
 -- with the opening of a dispute that is due
-opened_settled : (rows : List Row) (count : ℕ) (outcome : Outcome) → IsSettled count 6 outcome → IsSettled count 16 (and_opened rows outcome)
+opened_settled : (rows : List Row) (count : ℕ) (outcome : Outcome) → IsSettled count 6 outcome → IsSettled count most_rows (and_opened rows outcome)
 opened_settled rows count (Refuses error) settled = absurd settled
 opened_settled rows count (Adds object batch) settled =
-    small_most IsAny count 10 16 _ (due_small IsAny (λ content is. tt) rows count 6 object batch settled) (omega arith)
+    small_most IsAny count 10 most_rows _ (due_small IsAny (λ content is. tt) rows count 6 object batch settled) (omega arith)
 
 -- a ruling alone
 pub ruling_settled : (rows : List Row) (now place attempt : ℕ) (ruling : Ruling)
     → IsSettled (length rows) 6 (settle_outcome rows attempt ruling (empty_batch (length rows) now place))
 ruling_settled rows now place attempt ruling = row_settled rows (length rows) now place ruling (latest_of attempt rows)
 
-pub ruled_settled : (rows : List Row) (now place attempt : ℕ) (ruling : Ruling) → IsSettled (length rows) 16 (ruled_outcome rows now place attempt ruling)
+pub ruled_settled : (rows : List Row) (now place attempt : ℕ) (ruling : Ruling) → IsSettled (length rows) most_rows (ruled_outcome rows now place attempt ruling)
 ruled_settled rows now place attempt ruling =
     opened_settled rows (length rows) (settle_outcome rows attempt ruling (empty_batch (length rows) now place))
     (ruling_settled rows now place attempt ruling)
@@ -125,7 +126,7 @@ nothing_continues : (count : ℕ) → Continues count []
 nothing_continues count = record { placed = tt; few = omega arith }
 
 added_orderly : (rows : List Row) (now places caller object : ℕ) (batch : BatchState) (attempts : List flights.Attempt) (order : Option Order)
-    → IsSmall IsAny (length rows) 16 batch → IsAsked batch → begun batch ≡ order
+    → IsSmall IsAny (length rows) most_rows batch → IsAsked batch → begun batch ≡ order
     → IsOrderly places (length rows) attempts (added_effect rows now (places + 1) caller object batch order)
 added_orderly rows now places caller object batch attempts None small asked begins = record { continues = small_continues IsAny (length rows) batch small; next = tt }
 added_orderly rows now places caller object batch attempts (Some order) small asked begins =
@@ -145,7 +146,7 @@ call_orderly rows now places caller attempts (Makes outcome) good = outcome_orde
 call_orderly rows now places caller attempts (Shows doc) good = record { continues = nothing_continues (length rows); next = tt }
 call_orderly rows now places caller attempts (Sets moment) good = record { continues = nothing_continues (length rows); next = tt }
 
-outcome_continues : (count : ℕ) (outcome : Outcome) → IsSettled count 16 outcome → Continues count (outcome_rows outcome)
+outcome_continues : (count : ℕ) (outcome : Outcome) → IsSettled count most_rows outcome → Continues count (outcome_rows outcome)
 outcome_continues count (Refuses error) settled = absurd settled
 outcome_continues count (Adds object batch) settled = small_continues IsAny count batch settled
 
@@ -223,7 +224,7 @@ effect_later setup rows now attempts place caller (deed.Tick moment) = omega ari
 -- the rows and the attempts after so many entries
 pub record AreCounted (places : ℕ) (rows : List Row) (attempts : List flights.Attempt) : Type 0 where
   pub placed : ArePlaced 0 rows
-  pub few : length rows ≤ 16 * places + 1
+  pub few : length rows ≤ most_rows * places + 1
   pub kept : AreKept places (length rows) attempts
 
 pub counted_more : (setup : Setup) (past : List Happening) (entry : Entry) → AreCounted (length past) (rows_after setup past) (attempts_after past)
@@ -286,7 +287,7 @@ settled_served now rows ruling.Approved object batch = version_served now rows (
 settled_served now rows (ruling.Declined decline) object batch = declined_served now rows decline (version_with rows batch object)
 settled_served now rows ruling.Challenge object batch = version_served now rows (version_with rows batch object)
 
-ruling_served : (now : ℕ) (rows : List Row) (count : ℕ) (ruling : Ruling) (outcome : Outcome) → IsSettled count 16 outcome → IsServed (ruling_reply now rows ruling outcome)
+ruling_served : (now : ℕ) (rows : List Row) (count : ℕ) (ruling : Ruling) (outcome : Outcome) → IsSettled count most_rows outcome → IsServed (ruling_reply now rows ruling outcome)
 ruling_served now rows count ruling (Refuses error) settled = absurd settled
 ruling_served now rows count ruling (Adds object batch) settled = settled_served now rows ruling object batch
 

@@ -14,7 +14,7 @@ use Rattle.ph_kinds.specs.declared.flaw.Flaw.TheVariants as flaw
 use Rattle.ph_kinds.specs.Kinds.{text_flaw, map_flaw}
 use Rattle.ph_money.specs.Currencies.{terms_of}
 use Rattle.ph_http.specs.declared.message.Raw.{Raw}
-use Rattle.ph_rows.specs.Sound.{clock_limit}
+use Rattle.ph_items.specs.Clocks.{clock_limit}
 use Rattle.ph_http.specs.Replies.{is_status}
 use Rattle.ph_calls.specs.declared.call.Call.TheVariants as call
 use Rattle.ph_calls.specs.declared.call.CreateIntent.{CreateIntent}

@@ -16,25 +16,25 @@ use Rattle.ph_errors.specs.Table.{AmountTooSmall, ChargeAlreadyRefunded, ChargeD
 use Rattle.ph_kinds.specs.declared.authentication.Authentication.{Authentication}
 use Rattle.ph_kinds.specs.declared.authentication.Authentication.TheVariants.{Succeeded, Failed}
 use Rattle.ph_rows.specs.declared.rows.Row.{Row}
-use Rattle.ph_rows.specs.declared.attempts.Attempt.{Attempt}
-use Rattle.ph_rows.specs.declared.charges.Capture.{Capture}
-use Rattle.ph_rows.specs.declared.charges.Charge.{Charge}
-use Rattle.ph_rows.specs.declared.disputes.Dispute.{Dispute}
-use Rattle.ph_rows.specs.declared.disputes.DisputeStatus.{DisputeStatus}
-use Rattle.ph_rows.specs.declared.disputes.DisputeStatus.TheVariants as dispute_status
-use Rattle.ph_rows.specs.declared.items.Item.{Item}
-use Rattle.ph_rows.specs.declared.items.Item.TheVariants as item
-use Rattle.ph_rows.specs.declared.intents.Intent.{Intent}
-use Rattle.ph_rows.specs.declared.intents.IntentStatus.{IntentStatus}
-use Rattle.ph_rows.specs.declared.orders.Order.{Order}
-use Rattle.ph_rows.specs.declared.payment_methods.PaymentMethod.{PaymentMethod}
+use Rattle.ph_items.specs.declared.attempts.Attempt.{Attempt}
+use Rattle.ph_items.specs.declared.charges.Capture.{Capture}
+use Rattle.ph_items.specs.declared.charges.Charge.{Charge}
+use Rattle.ph_items.specs.declared.disputes.Dispute.{Dispute}
+use Rattle.ph_items.specs.declared.disputes.DisputeStatus.{DisputeStatus}
+use Rattle.ph_items.specs.declared.disputes.DisputeStatus.TheVariants as dispute_status
+use Rattle.ph_items.specs.declared.items.Item.{Item}
+use Rattle.ph_items.specs.declared.items.Item.TheVariants as item
+use Rattle.ph_items.specs.declared.intents.Intent.{Intent}
+use Rattle.ph_items.specs.declared.intents.IntentStatus.{IntentStatus}
+use Rattle.ph_items.specs.declared.orders.Order.{Order}
+use Rattle.ph_items.specs.declared.payment_methods.PaymentMethod.{PaymentMethod}
 use Rattle.ph_rows.specs.declared.batches.Announced.{Announced}
-use Rattle.ph_rows.specs.declared.event_kinds.EventKind.{EventKind}
-use Rattle.ph_rows.specs.declared.event_kinds.EventKind.TheVariants as event
-use Rattle.ph_rows.specs.declared.intents.CancellationReason.{CancellationReason}
-use Rattle.ph_rows.specs.declared.intents.PaymentError.TheVariants as payment_error
+use Rattle.ph_items.specs.declared.event_kinds.EventKind.{EventKind}
+use Rattle.ph_items.specs.declared.event_kinds.EventKind.TheVariants as event
+use Rattle.ph_items.specs.declared.intents.CancellationReason.{CancellationReason}
+use Rattle.ph_items.specs.declared.intents.PaymentError.TheVariants as payment_error
 use Rattle.ph_rows.specs.Batches.{BatchState, empty_batch, last_place, next_row, version_with, with_announced, with_row, event_rows, made_rows}
-use Rattle.ph_rows.specs.Items.{attempt_in, charge_in, dispute_in, intent_in}
+use Rattle.ph_items.specs.Items.{attempt_in, card_charge_in, charge_in, dispute_in, intent_in}
 use Rattle.ph_rows.specs.Names.{object_named, owned_named}
 use Rattle.ph_rows.specs.Rows.{later_version, latest_of}
 use Rattle.ph_http.specs.declared.message.Raw.{Raw}
@@ -45,9 +45,10 @@ use Rattle.ph_calls.specs.declared.call.CaptureIntent.{CaptureIntent}
 use Rattle.ph_calls.specs.declared.call.CreateIntent.{CreateIntent}
 use Rattle.ph_calls.specs.declared.call.CreateRefund.{CreateRefund}
 use Rattle.ph_calls.specs.declared.call.UpdateIntent.{UpdateIntent}
-use Rattle.ph_calls.specs.Outcomes.{Outcome, Refuses, Adds}
+use Rattle.ph_facts.specs.Keeps.{most_rows}
+use Rattle.ph_facts.specs.Outcomes.{Outcome, Refuses, Adds}
 use Rattle.ph_calls.specs.Reading.{reading_of}
-use Rattle.ph_views.specs.Events.{platform}
+use Rattle.ph_items.specs.Accounts.{platform}
 use Rattle.ph_charges.specs.Captures as captures
 use Rattle.ph_disputes.specs.Answers.{evidence_of, verdict_on, with_evidence, with_verdict}
 use Rattle.ph_disputes.specs.Closing.{close_of}
@@ -95,7 +96,7 @@ events_few key at rows count (told ∷ announced) = ap suc (events_few key at ro
 -- rows that may stand behind so many: numbered on from them, and few
 pub record Continues (count : ℕ) (rows : List Row) : Type 0 where
   pub placed : ArePlaced count rows
-  pub few : length rows ≤ 16
+  pub few : length rows ≤ most_rows
 
 -- the items of rows are such
 abbrev pub AllAre : (Item → Type 0) → List Row → Type 0
@@ -163,7 +164,7 @@ small_any : (P : Item → Type 0) (count most : ℕ) (batch : BatchState) → Is
 small_any P count most batch small = record { began = small.began; placed = small.placed; few = small.few; items = any_all P batch.rows small.items }
 
 -- what a small batch makes
-pub small_continues : (P : Item → Type 0) (count : ℕ) (batch : BatchState) → IsSmall P count 16 batch → Continues count (made_rows None batch)
+pub small_continues : (P : Item → Type 0) (count : ℕ) (batch : BatchState) → IsSmall P count most_rows batch → Continues count (made_rows None batch)
 small_continues P count batch small =
     let events : List Row = event_rows None batch.at batch.rows (last_place batch) batch.announced in
     let last : last_place batch ≡ count + length batch.rows = ap (λ n. n + length batch.rows) small.began in
@@ -222,12 +223,12 @@ attempt_asked account intent amount currency method batch order e =
 -- an error that can be answered; or a small batch, whose attempt is asked under its last row
 abbrev pub IsFit : ℕ → Outcome → Type 0
 IsFit count (Refuses error) = IsAnswered error
-IsFit count (Adds object batch) = IsSmall IsAny count 16 batch × IsAsked batch
+IsFit count (Adds object batch) = IsSmall IsAny count most_rows batch × IsAsked batch
 
 -- a small batch with no attempt is fit
-no_attempt_fit : (count most object : ℕ) (batch : BatchState) → IsSmall IsNoAttempt count most batch → most ≤ 16 → IsFit count (Adds object batch)
+no_attempt_fit : (count most object : ℕ) (batch : BatchState) → IsSmall IsNoAttempt count most batch → most ≤ most_rows → IsFit count (Adds object batch)
 no_attempt_fit count most object batch small few =
-    (small_any IsNoAttempt count 16 batch (small_most IsNoAttempt count most 16 batch small few), no_attempt_asked batch small.items)
+    (small_any IsNoAttempt count most_rows batch (small_most IsNoAttempt count most most_rows batch small few), no_attempt_asked batch small.items)
 
 -- a payment intent's operation: refused where there is none, or by its status, or what it makes
 found_fit : (count : ℕ) (operation : ℕ → Intent → Outcome) (found : Option Row) → ((object : ℕ) (intent : Intent) → IsFit count (operation object intent))
@@ -352,7 +353,7 @@ opened_of_small P other count most account object (Some charge) batch small =
 opened_in_small : (P : Item → Type 0) → ((content : Item) → IsNoAttempt content → P content) → (count most object : ℕ) (found : Option Row) (batch : BatchState)
     → IsSmall P count most batch → IsSmall P count (most + 4) (opening_in object batch found)
 opened_in_small P other count most object None batch small = small_most P count most (most + 4) batch small (omega arith)
-opened_in_small P other count most object (Some row) batch small = opened_of_small P other count most row.account object (charge_in row.item) batch small
+opened_in_small P other count most object (Some row) batch small = opened_of_small P other count most row.account object (card_charge_in row.item) batch small
 
 opened_small : (P : Item → Type 0) → ((content : Item) → IsNoAttempt content → P content) → (rows : List Row) (count most : ℕ) (due : Option ℕ) (batch : BatchState)
     → IsSmall P count most batch → IsSmall P count (most + 4) (opening_due rows batch due)
@@ -403,7 +404,7 @@ capture_quiet rows now place c =
     (amount_quiet rows (length rows) now place platform (unwrap_or c.amount_to_capture intent.amount_capturable) object intent))
 
 -- with the opening of a dispute
-opened_fit : (rows : List Row) (count most : ℕ) (outcome : Outcome) → IsQuiet count most outcome → most + 4 ≤ 16 → IsFit count (and_opened rows outcome)
+opened_fit : (rows : List Row) (count most : ℕ) (outcome : Outcome) → IsQuiet count most outcome → most + 4 ≤ most_rows → IsFit count (and_opened rows outcome)
 opened_fit rows count most (Refuses error) quiet few = quiet
 opened_fit rows count most (Adds object batch) quiet few =
     no_attempt_fit count (most + 4) object _ (due_small IsNoAttempt (λ content is. is) rows count most object batch quiet) few
@@ -479,7 +480,7 @@ dispute_found count operation (Some row) fit = inside (dispute_in row.item)
     inside None = answered (NoSuchObject (codes "id"))
     inside (Some dispute) = fit row dispute
 
-open_fit : (count most object : ℕ) (status : DisputeStatus) (batch : BatchState) → IsSmall IsNoAttempt count most batch → most ≤ 16
+open_fit : (count most object : ℕ) (status : DisputeStatus) (batch : BatchState) → IsSmall IsNoAttempt count most batch → most ≤ most_rows
     → IsFit count (disputes.if_open status object batch)
 open_fit count most object status batch small few =
     chosen (IsFit count) (disputes.is_closed status) (Refuses (error_of DisputeClosed)) (Adds object batch) (answered DisputeClosed)

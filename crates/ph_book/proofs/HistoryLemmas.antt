@@ -7,7 +7,7 @@ use Rattle.std.proofs.lemmas.Grind.{flat_map-append}
 use Rattle.ph_attempts.specs.declared.flights.Attempt as flights
 use Rattle.ph_attempts.specs.Attempts.{Step}
 use Rattle.ph_rows.specs.declared.rows.Row.{Row}
-use Rattle.ph_rows.specs.Sound.{clock_limit}
+use Rattle.ph_items.specs.Clocks.{clock_limit}
 use Rattle.ph_rows.specs.Weights.{rows_weight}
 use Rattle.ph_http.specs.declared.message.Reply.{Reply}
 use Rattle.ph_lock.specs.declared.object.Refused.{Refused}

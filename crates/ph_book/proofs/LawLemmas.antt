@@ -11,9 +11,9 @@ use Rattle.ph_attempts.specs.declared.flights.Attempt as flights
 use Rattle.ph_attempts.specs.Attempts.{Step, Begins, Parks, Resumes, Settles}
 use Rattle.ph_http.specs.declared.message.Raw.{Raw}
 use Rattle.ph_rows.specs.declared.rows.Row.{Row}
-use Rattle.ph_rows.specs.Kinds.{kind_of}
+use Rattle.ph_items.specs.Kinds.{kind_of}
 use Rattle.ph_rows.specs.Rows.{row_at}
-use Rattle.ph_rows.proofs.SoundLemmas.{picked, row_at_within}
+use Rattle.ph_rows.proofs.RowLemmas.{picked, row_at_within}
 use Rattle.ph_views.specs.Values.{printed_id}
 use Rattle.ph_book.specs.declared.setup.Setup.{Setup}
 use Rattle.ph_book.specs.declared.acts.Entry.{Entry}

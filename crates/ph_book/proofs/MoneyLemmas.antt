@@ -1,15 +1,19 @@
 -- The laws of money, of sound rows.
-use Rattle.std.proofs.Common.{◌≡◌, ℕ, ◌≤◌, ◌∷◌, Bool, true, false, cond, nat_le, nat_lt, List, [], refl, subst, arith, ℤ, pos, ◌+ℤ◌, ◌≤ℤ◌}
+use Rattle.std.proofs.Common.{◌≡◌, ℕ, ◌≤◌, ◌∷◌, Bool, true, false, cond, nat_le, nat_lt, List, [], refl, sym, ap, subst, arith, ℤ, pos, ◌+ℤ◌, ◌≤ℤ◌}
 use Rattle.std.specs.List.{filter}
 use Rattle.std.proofs.lemmas.Bool.Decides.{nat_tests}
 use Rattle.std.proofs.lemmas.Int.{ints}
-use Rattle.ph_rows.specs.declared.movements.Movement.{Movement}
+use Rattle.ph_items.specs.declared.items.Item.TheVariants as item
+use Rattle.ph_items.specs.declared.movements.Movement.{Movement}
 use Rattle.ph_rows.specs.declared.rows.Row.{Row}
-use Rattle.ph_rows.specs.Balances.{counts, movements_of, net_of}
-use Rattle.ph_rows.specs.Sound.{IsSound}
-use Rattle.ph_rows.specs.Transactions.{refunded_of}
+use Rattle.ph_items.specs.Movements.{counts}
+use Rattle.ph_rows.specs.Balances.{movements_of, net_of}
+use Rattle.ph_facts.specs.Sound.{IsSound}
+use Rattle.ph_facts.specs.Amounts.{captured, moved, moves_in, refunded, refunded_of}
+use Rattle.ph_facts.proofs.OrderLemmas.{amounts_stand}
+use Rattle.ph_facts.proofs.SoundLemmas.{latest_of_sound}
 use Rattle.ph_rows.specs.Views.{ViewState}
-use Rattle.ph_book.specs.Laws.{BalancesAreSums, DisputesMoveOnce, RefundsFit}
+use Rattle.ph_book.specs.Laws.{AmountsAreSums, BalancesAreSums, DisputesMoveOnce, RefundsFit}
 
 -- what counts at a time and what doesn't are all
 net_parts : (time : ℕ) (movements : List Movement)
@@ -34,17 +38,24 @@ net_parts time (movement ∷ movements) = at (nat_le movement.available_on time)
 pub balances_sum : (rows : List Row) → BalancesAreSums rows
 balances_sum rows account currency time = net_parts time (movements_of account currency rows)
 
+-- the present version of a charge says its amounts
+pub sound_amounts : (state : ViewState) → IsSound state → AmountsAreSums state.rows
+sound_amounts state sound = record {
+  captured = λ object row charge found is. sound.laws.captured object row (pos charge.amount_captured) found (ap captured.said is);
+  refunded = λ object row charge found is. sound.laws.refunded object row charge.amount_refunded found (ap refunded.said is);
+}
+
 pub sound_refunds : (state : ViewState) → IsSound state → RefundsFit state.rows
 sound_refunds state sound object row charge found is =
-    let sums = sound.charges object row charge found is in
-    let captured = sums.captured in
-    let refunded = sums.refunded in
-    let within = sums.within_captured in
-    subst (λ (z : ℤ). pos (refunded_of object state.rows) ≤ℤ z) captured
-    (subst (λ n. pos n ≤ℤ pos charge.amount_captured) refunded (least within))
+    let sums = sound_amounts state sound in
+    let fits = amounts_stand state row (item.Charge charge) sound.order (latest_of_sound state object row sound found).0 is in
+    let within = fits.refunded in
+    subst (λ (z : ℤ). pos (refunded_of object state.rows) ≤ℤ z) (sums.captured object row charge found is)
+    (subst (λ n. pos n ≤ℤ pos charge.amount_captured) (sums.refunded object row charge found is) (least within))
   where
     least : {a b : ℕ} → a ≤ b → pos a ≤ℤ pos b
     least h = omega (arith, ints)
 
 pub sound_disputes : (state : ViewState) → IsSound state → DisputesMoveOnce state.rows
-sound_disputes state sound = sound.disputes
+sound_disputes state sound object row dispute found is =
+    sym (sound.laws.moved object row (moves_in dispute.status dispute.amount) found (ap moved.said is))

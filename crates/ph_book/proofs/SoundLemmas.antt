@@ -12,36 +12,39 @@ use Rattle.ph_errors.specs.Table.{ClockBackwards, InvalidApiKey, NoSuchAccount, 
 use Rattle.ph_http.specs.declared.message.Raw.{Raw}
 use Rattle.ph_kinds.specs.declared.authentication.Authentication.{Authentication}
 use Rattle.ph_kinds.specs.declared.authentication.Authentication.TheVariants.{Succeeded, Failed}
-use Rattle.ph_rows.specs.declared.attempts.Attempt.{Attempt}
-use Rattle.ph_rows.specs.declared.attempts.AttemptState.TheVariants as attempt_state
-use Rattle.ph_rows.specs.declared.events.Event.{Event}
-use Rattle.ph_rows.specs.declared.items.Item.{Item}
-use Rattle.ph_rows.specs.declared.items.Item.TheVariants as item
-use Rattle.ph_rows.specs.declared.orders.Order.{Order}
+use Rattle.ph_items.specs.declared.attempts.Attempt.{Attempt}
+use Rattle.ph_items.specs.declared.attempts.AttemptState.TheVariants as attempt_state
+use Rattle.ph_items.specs.declared.events.Event.{Event}
+use Rattle.ph_items.specs.declared.items.Item.{Item}
+use Rattle.ph_items.specs.declared.items.Item.TheVariants as item
+use Rattle.ph_items.specs.declared.orders.Order.{Order}
 use Rattle.ph_rows.specs.declared.rows.Row.{Row}
 use Rattle.ph_rows.specs.Batches.{BatchState, empty_batch, made_rows, with_row}
-use Rattle.ph_rows.specs.Entering.{MayBeEntered}
-use Rattle.ph_rows.specs.Items.{attempt_in}
-use Rattle.ph_rows.specs.Kinds.{kind_of}
+use Rattle.ph_facts.specs.Entering.{MayBeEntered}
+use Rattle.ph_items.specs.Items.{attempt_in}
+use Rattle.ph_items.specs.Kinds.{kind_of}
 use Rattle.ph_rows.specs.Names.{owned_named}
 use Rattle.ph_rows.specs.Rows.{latest_of}
-use Rattle.ph_rows.specs.Sound.{AreHeld, HaveMoves, HaveSums, IsSound, MayFollow, clock_limit}
+use Rattle.ph_facts.specs.Origins.{HasOrigins, origins_of}
+use Rattle.ph_facts.specs.Sound.{IsSound, KeepLaws}
+use Rattle.ph_facts.specs.Order.{MayFollow}
+use Rattle.ph_items.specs.Clocks.{clock_limit}
 use Rattle.ph_rows.specs.Views.{ViewState}
-use Rattle.ph_rows.proofs.AmountLemmas.{sums_beside}
-use Rattle.ph_rows.proofs.EnterLemmas.{entered_sound}
-use Rattle.ph_rows.proofs.HeldLemmas.{held_beside}
-use Rattle.ph_rows.proofs.MoveLemmas.{moves_stay}
-use Rattle.ph_rows.proofs.SoundLemmas.{latest_of_sound, order_with_all, sound_empty, sound_later, sound_with_all}
-use Rattle.ph_rows.proofs.UnderwayLemmas.{IsUnderway, underway_further}
+use Rattle.ph_facts.proofs.EnterLemmas.{entered_sound}
+use Rattle.ph_facts.proofs.LawLemmas.{laws_beside}
+use Rattle.ph_facts.proofs.SoundLemmas.{latest_of_sound, sound_empty, sound_later, sound_with_all}
+use Rattle.ph_facts.proofs.OrderLemmas.{order_with_all, origins_stand}
+use Rattle.ph_facts.proofs.OriginLemmas.{have_begun-before}
+use Rattle.ph_facts.proofs.UnderwayLemmas.{IsUnderway, underway_further}
 use Rattle.ph_calls.specs.declared.call.Authenticate.{Authenticate}
 use Rattle.ph_calls.specs.declared.call.Call.{Call}
 use Rattle.ph_calls.specs.declared.call.Call.TheVariants as call
 use Rattle.ph_calls.specs.Fit as calls
-use Rattle.ph_calls.specs.Keeps.{AddsSound, IsReady, batch_after}
-use Rattle.ph_calls.specs.Outcomes.{Outcome, Refuses, Adds}
+use Rattle.ph_facts.specs.Keeps.{AddsSound, IsReady, batch_after, most_rows}
+use Rattle.ph_facts.specs.Outcomes.{Outcome, Refuses, Adds}
 use Rattle.ph_calls.specs.Reading.{reading_of}
 use Rattle.ph_calls.proofs.FitLemmas.{reading_fit}
-use Rattle.ph_views.specs.Events.{platform}
+use Rattle.ph_items.specs.Accounts.{platform}
 use Rattle.ph_intents.specs.Attempts.{begun}
 use Rattle.ph_intents.specs.Capture.{capture_outcome}
 use Rattle.ph_intents.specs.Create.{create_outcome, create_confirmed_outcome}
@@ -75,9 +78,7 @@ nothing_enters state entry sound = record {
   began = refl;
   at = refl;
   follow = tt;
-  charges = subst HaveSums (sym (append-nil state.rows)) sound.charges;
-  held = subst AreHeld (sym (append-nil state.rows)) sound.held;
-  disputes = subst HaveMoves (sym (append-nil state.rows)) sound.disputes;
+  laws = subst KeepLaws (sym (append-nil state.rows)) sound.laws;
   told = tt;
 }
 
@@ -163,7 +164,7 @@ same_rows : (state : ViewState) → IsSound state → IsSound (record state { ro
 same_rows state sound = subst (λ (rows : List Row). IsSound (record state { rows = rows })) (sym (append-nil state.rows)) sound
 
 -- with a small batch that may be entered
-batch_entered : (state : ViewState) (batch : BatchState) → IsReady state → MayBeEntered state batch → IsSmall IsAny (length state.rows) 16 batch
+batch_entered : (state : ViewState) (batch : BatchState) → IsReady state → MayBeEntered state batch → IsSmall IsAny (length state.rows) most_rows batch
     → IsSound (record state { rows = state.rows ++ made_rows None batch })
 batch_entered state batch ready enters small =
     let few = (small_continues IsAny (length state.rows) batch small).few in
@@ -192,7 +193,7 @@ call_sound state place caller (Makes outcome) ready good comes = outcome_sound s
 call_sound state place caller (Shows doc) ready good comes = same_rows state ready.sound
 call_sound state place caller (Sets moment) ready good comes = sound_later (record state { rows = state.rows ++ [] }) moment (same_rows state ready.sound) good comes
 
-ruled_sound : (state : ViewState) (outcome : Outcome) → IsReady state → IsSettled (length state.rows) 16 outcome → AddsSound state outcome
+ruled_sound : (state : ViewState) (outcome : Outcome) → IsReady state → IsSettled (length state.rows) most_rows outcome → AddsSound state outcome
     → IsSound (record state { rows = state.rows ++ outcome_rows outcome })
 ruled_sound state (Refuses error) ready settled adds = same_rows state ready.sound
 ruled_sound state (Adds object batch) ready settled adds = batch_entered state batch ready adds settled
@@ -206,16 +207,16 @@ finish_sound state place ruling (Some flight) ready =
     (ruling_opened state (settle_outcome state.rows number ruling (batch_after state place)) ready (ruling_settled state.rows state.time place number ruling)
     (settle_keeps state place number ruling ready))
 
--- the item of an attempt is of its kind
-attempt_kind : (content : Item) (attempt : Attempt) → attempt_in content ≡ Some attempt → kind.Attempt ≡ kind_of content
-attempt_kind (item.Account account) attempt e = absurd (cc)
-attempt_kind (item.Intent intent) attempt e = absurd (cc)
-attempt_kind (item.Attempt other) attempt e = refl
-attempt_kind (item.Charge charge) attempt e = absurd (cc)
-attempt_kind (item.Refund refund) attempt e = absurd (cc)
-attempt_kind (item.Dispute dispute) attempt e = absurd (cc)
-attempt_kind (item.Txn txn) attempt e = absurd (cc)
-attempt_kind (item.Event event) attempt e = absurd (cc)
+-- the item of which there is an attempt is its version
+attempt_is : (content : Item) (attempt : Attempt) → attempt_in content ≡ Some attempt → content ≡ item.Attempt attempt
+attempt_is (item.Account account) attempt e = absurd (cc)
+attempt_is (item.Intent intent) attempt e = absurd (cc)
+attempt_is (item.Attempt other) attempt e = (let same : other ≡ attempt = cc in ap (λ (a : Attempt). item.Attempt a) same)
+attempt_is (item.Charge charge) attempt e = absurd (cc)
+attempt_is (item.Refund refund) attempt e = absurd (cc)
+attempt_is (item.Dispute dispute) attempt e = absurd (cc)
+attempt_is (item.Txn txn) attempt e = absurd (cc)
+attempt_is (item.Event event) attempt e = absurd (cc)
 
 -- a parked version of an attempt that stands
 parked_sound : (state : ViewState) (place number : ℕ) (row : Row) (attempt : Attempt) → IsReady state → latest_of number state.rows ≡ Some row
@@ -228,14 +229,15 @@ parked_sound state place number row attempt ready found is =
     let begins : IsUnderway state empty = record { continues = record { began = refl; at = refl; follow = tt }; told = tt } in
     let there = latest_of_sound state number row ready.sound found in
     let room = ready.room in
+    let old = attempt_is row.item attempt is in
+    let named : HasOrigins (state.rows ++ []) (origins_of (item.Attempt attempt)) =
+    have_begun-before state.rows [] (origins_of (item.Attempt attempt)) (origins_stand state row (item.Attempt attempt) ready.sound.order there.0 old) in
     let under : IsUnderway state batch =
     underway_further state empty row content ready.sound.order begins there.0 (omega arith)
-    (record { texts = refl; origins = tt; silent = λ event e. absurd (cc) })
-    (record { kind = attempt_kind row.item attempt is; changes = refl }) in
+    (record { texts = refl; within = tt; origins = named; silent = λ event e. absurd (cc) })
+    (record { kind = sym (ap kind_of old); changes = refl }) in
     sound_with_all state batch.rows ready.sound under.continues.follow
-    (sums_beside state.rows batch.rows refl ready.sound.charges)
-    (held_beside state batch.rows ready.sound.order (order_with_all state batch.rows ready.sound.order under.continues.follow) (tt, tt) ready.sound.held)
-    (moves_stay state.rows batch.rows refl ready.sound.disputes)
+    (laws_beside state batch.rows ready.sound.order (order_with_all state batch.rows ready.sound.order under.continues.follow) refl (tt, tt) ready.sound.laws)
 
 park_rows_sound : (state : ViewState) (place number : ℕ) (found : Option Row) → IsReady state → latest_of number state.rows ≡ found
     → IsSound (record state { rows = state.rows ++ (parked_from (empty_batch (length state.rows) state.time place) found).rows })
@@ -291,13 +293,12 @@ opening_sound opened shown =
       first = omega arith;
       once = λ is. absurd (cc);
       texts = refl;
+      within = tt;
       origins = tt;
       events = λ event is. absurd (cc);
     } in
     sound_with_all none (opening_row opened ∷ []) sound (follows, tt)
-    (sums_beside [] (opening_row opened ∷ []) refl sound.charges)
-    (held_beside none (opening_row opened ∷ []) sound.order (order_with_all none (opening_row opened ∷ []) sound.order (follows, tt)) (tt, tt) sound.held)
-    (moves_stay [] (opening_row opened ∷ []) refl sound.disputes)
+    (laws_beside none (opening_row opened ∷ []) sound.order (order_with_all none (opening_row opened ∷ []) sound.order (follows, tt)) refl (tt, tt) sound.laws)
 
 sound_from : (setup : Setup) (past : List Happening) (history : List Entry) → setup.entries < 2 ^ 32
     → AreCounted (length past) (rows_after setup past) (attempts_after past) → used_after past ≤ setup.entries → AreAllowed setup past history

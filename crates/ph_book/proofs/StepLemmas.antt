@@ -7,11 +7,11 @@ use Rattle.ph_attempts.specs.declared.flights.Attempt.TheVariants.{Live}
 use Rattle.ph_attempts.specs.declared.flights.Flight.{Flight}
 use Rattle.ph_attempts.specs.Attempts.{Step, Begins, Parks, Settles, after, entry_of}
 use Rattle.ph_rows.specs.declared.rows.Row.{Row}
-use Rattle.ph_rows.specs.declared.attempts.Attempt.{Attempt}
+use Rattle.ph_items.specs.declared.attempts.Attempt.{Attempt}
 use Rattle.ph_rows.specs.Batches.{empty_batch}
-use Rattle.ph_rows.specs.Items.{attempt_in}
+use Rattle.ph_items.specs.Items.{attempt_in}
 use Rattle.ph_rows.specs.Rows.{latest_of}
-use Rattle.ph_rows.specs.Sound.{clock_limit}
+use Rattle.ph_items.specs.Clocks.{clock_limit}
 use Rattle.ph_rows.specs.Weights.{rows_weight}
 use Rattle.ph_http.specs.declared.message.Raw.{Raw}
 use Rattle.ph_book.specs.declared.setup.Setup.{Setup}

@@ -4,7 +4,7 @@ use Rattle.ph_errors.specs.declared.refusal.Refusal.{Refusal}
 use Rattle.ph_errors.specs.declared.refusal.Refusal.TheVariants as refusal
 use Rattle.ph_attempts.specs.Attempts.{Begins}
 use Rattle.ph_rows.specs.Batches.{BatchState}
-use Rattle.ph_calls.specs.Outcomes.{Refuses, Adds}
+use Rattle.ph_facts.specs.Outcomes.{Refuses, Adds}
 use Rattle.ph_book.specs.declared.calls.Carried.{Carried}
 use Rattle.ph_book.specs.declared.calls.Carried.TheVariants as carried
 use Rattle.ph_book.specs.declared.calls.Called.{Called}

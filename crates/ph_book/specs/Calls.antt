@@ -16,9 +16,9 @@ use Rattle.ph_calls.specs.declared.call.CreateIntent.{CreateIntent}
 use Rattle.ph_calls.specs.declared.call.Call.{Call}
 use Rattle.ph_calls.specs.declared.call.Call.TheVariants as call
 use Rattle.ph_calls.specs.Reading.{reading_of}
-use Rattle.ph_calls.specs.Outcomes.{Outcome, Refuses, Adds}
+use Rattle.ph_facts.specs.Outcomes.{Outcome, Refuses, Adds}
 use Rattle.ph_views.specs.Balances.{balance_doc}
-use Rattle.ph_views.specs.Events.{platform}
+use Rattle.ph_items.specs.Accounts.{platform}
 use Rattle.ph_views.specs.Values.{printed_id}
 use Rattle.ph_intents.specs.Authenticate.{authenticate_outcome, fail_authentication_outcome}
 use Rattle.ph_intents.specs.Cancel.{cancel_outcome}

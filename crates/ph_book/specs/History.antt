@@ -6,21 +6,21 @@ use Rattle.ph_base.specs.declared.acquirer.Why.{Why}
 use Rattle.ph_attempts.specs.declared.flights.Attempt as flights
 use Rattle.ph_attempts.specs.declared.flights.Flight.{Flight}
 use Rattle.ph_attempts.specs.Attempts.{Step, Begins, Parks, Settles}
-use Rattle.ph_rows.specs.declared.attempts.Attempt.{Attempt}
-use Rattle.ph_rows.specs.declared.attempts.AttemptState.TheVariants as state
-use Rattle.ph_rows.specs.declared.orders.Order.{Order}
+use Rattle.ph_items.specs.declared.attempts.Attempt.{Attempt}
+use Rattle.ph_items.specs.declared.attempts.AttemptState.TheVariants as state
+use Rattle.ph_items.specs.declared.orders.Order.{Order}
 use Rattle.ph_rows.specs.declared.rows.Row.{Row}
-use Rattle.ph_rows.specs.declared.items.Item.TheVariants as item
-use Rattle.ph_rows.specs.Items.{attempt_in}
-use Rattle.ph_rows.specs.declared.accounts.AccountType.TheVariants as sort
+use Rattle.ph_items.specs.declared.items.Item.TheVariants as item
+use Rattle.ph_items.specs.Items.{attempt_in}
+use Rattle.ph_items.specs.declared.accounts.AccountType.TheVariants as sort
 use Rattle.ph_rows.specs.Batches.{BatchState, empty_batch, made_rows, with_row}
 use Rattle.ph_rows.specs.Rows.{latest_of}
 use Rattle.ph_rows.specs.Views.{ViewState}
 use Rattle.ph_http.specs.declared.message.Reply.{Reply}
 use Rattle.ph_json.specs.declared.doc.Doc.{Doc}
-use Rattle.ph_calls.specs.Outcomes.{Outcome, Refuses, Adds}
+use Rattle.ph_facts.specs.Outcomes.{Outcome, Refuses, Adds}
 use Rattle.ph_views.specs.Clocks.{clock_doc}
-use Rattle.ph_views.specs.Events.{platform}
+use Rattle.ph_items.specs.Accounts.{platform}
 use Rattle.ph_intents.specs.Attempts.{begun}
 use Rattle.ph_intents.specs.Settle.{settle_outcome}
 use Rattle.ph_book.specs.declared.setup.Setup.{Setup}

@@ -2,13 +2,13 @@
 use Rattle.std.specs.Prelude.{◌≡◌, ℕ, pos, ◌+ℤ◌, ◌≤ℤ◌, List, Some}
 use Rattle.ph_money.specs.declared.currencies.Currency.{Currency}
 use Rattle.ph_rows.specs.declared.rows.Row.{Row}
-use Rattle.ph_rows.specs.declared.charges.Charge.{Charge}
-use Rattle.ph_rows.specs.declared.items.Item.TheVariants as item
+use Rattle.ph_items.specs.declared.charges.Charge.{Charge}
+use Rattle.ph_items.specs.declared.disputes.Dispute.{Dispute}
+use Rattle.ph_items.specs.declared.items.Item.TheVariants as item
 use Rattle.ph_rows.specs.Balances.{available_of, movements_of, net_of, pending_of}
-use Rattle.ph_rows.specs.Kinds.{kind_of}
+use Rattle.ph_items.specs.Kinds.{kind_of}
 use Rattle.ph_rows.specs.Rows.{latest_of, row_at}
-use Rattle.ph_rows.specs.Sound.{HaveMoves}
-use Rattle.ph_rows.specs.Transactions.{captured_of, refunded_of}
+use Rattle.ph_facts.specs.Amounts.{captured_of, moves_in, moves_of, refunded_of}
 use Rattle.ph_views.specs.Values.{printed_id}
 
 -- the printed id of a row's object
@@ -20,6 +20,15 @@ abbrev pub BalancesAreSums : List Row → Type 0
 BalancesAreSums rows = (account : ℕ) (currency : Currency) (time : ℕ)
     → available_of account currency time rows +ℤ pending_of account currency time rows ≡ net_of (movements_of account currency rows)
 
+-- the amounts that the present version of a charge says are sums over the rows
+pub record AmountsAreSums (rows : List Row) : Type 0 where
+  -- what was captured is the sum of its transactions of type charge
+  pub captured : (object : ℕ) (row : Row) (charge : Charge) → latest_of object rows ≡ Some row → row.item ≡ item.Charge charge
+      → pos charge.amount_captured ≡ captured_of object rows
+  -- what was refunded is the sum of its refunds
+  pub refunded : (object : ℕ) (row : Row) (charge : Charge) → latest_of object rows ≡ Some row → row.item ≡ item.Charge charge
+      → charge.amount_refunded ≡ refunded_of object rows
+
 -- the refunds of a charge add up to no more than what was captured of it
 abbrev pub RefundsFit : List Row → Type 0
 RefundsFit rows = (object : ℕ) (row : Row) (charge : Charge) → latest_of object rows ≡ Some row → row.item ≡ item.Charge charge
@@ -27,7 +36,8 @@ RefundsFit rows = (object : ℕ) (row : Row) (charge : Charge) → latest_of obj
 
 -- the transactions of a dispute are one that takes its amount and the fee, and one that gives the amount back exactly where it is won
 abbrev pub DisputesMoveOnce : List Row → Type 0
-DisputesMoveOnce rows = HaveMoves rows
+DisputesMoveOnce rows = (object : ℕ) (row : Row) (dispute : Dispute) → latest_of object rows ≡ Some row
+    → row.item ≡ item.Dispute dispute → moves_of object rows ≡ moves_in dispute.status dispute.amount
 
 -- first versions at different places have different ids
 abbrev pub HaveDifferentIds : List Row → Type 0

@@ -5,14 +5,14 @@ use Rattle.ph_base.specs.declared.acquirer.Ruling.{Ruling}
 use Rattle.ph_base.specs.declared.acquirer.Ruling.TheVariants as ruling
 use Rattle.ph_base.specs.declared.acquirer.Why.{Why}
 use Rattle.ph_base.specs.declared.acquirer.Why.TheVariants as why
-use Rattle.ph_rows.specs.declared.orders.Order.{Order}
+use Rattle.ph_items.specs.declared.orders.Order.{Order}
 use Rattle.ph_rows.specs.declared.rows.Row.{Row}
 use Rattle.ph_rows.specs.Batches.{BatchState, version_with}
 use Rattle.ph_errors.specs.declared.api_error.ApiError.{ApiError}
 use Rattle.ph_errors.specs.Table.{Problem, AcquirerPending, AcquirerFailed, CardDeclined, NoMemory, NoSuchObject, error_of}
 use Rattle.ph_errors.specs.Body.{body_of}
 use Rattle.ph_http.specs.declared.message.Reply.{Reply}
-use Rattle.ph_calls.specs.Outcomes.{Outcome, Refuses, Adds}
+use Rattle.ph_facts.specs.Outcomes.{Outcome, Refuses, Adds}
 use Rattle.ph_json.specs.declared.doc.Doc.{Doc}
 use Rattle.ph_json.specs.Text.{text_of}
 use Rattle.ph_views.specs.Objects.{object_doc, object_text}

@@ -1,7 +1,7 @@
 //! The book.
 ghost use Rattle.std.specs.Prelude.{◌≡◌, ◌+◌, ◌^◌, ◌<◌, ◌≤◌, ◌↔◌, ◌∷◌, ◌++◌, [], false, length, None, Some, IfOk, IfErr, OnOk, OnErr, IsTrue};
 ghost use Rattle.ph_attempts.specs.Attempts.{Begins};
-ghost use Rattle.ph_rows.specs.Sound.{clock_limit};
+ghost use Rattle.ph_items.specs.Clocks.{clock_limit};
 ghost use Rattle.ph_lock.specs.declared.object.Refused.{Refused};
 ghost use Rattle.ph_book.specs.declared.acts.Deed.TheVariants as deed;
 ghost use Rattle.ph_book.specs.State.{BookState, entered};
@@ -14,7 +14,7 @@ ghost use Rattle.ph_book.specs.Legal.{is_full, IsLegal};
 ghost use Rattle.ph_book.specs.Tickets.{HandsOut, Holds, SpendsOwn};
 
 use crate::acts::{Act, Answer, Deed, Entry};
-use crate::calls::{Called, PLATFORM, called_by};
+use crate::calls::{Called, called_by};
 use crate::endings::{Ending, parked_row, settled};
 use crate::room::{later, one_less, push_row, take_room};
 use crate::setup::Setup;
@@ -24,9 +24,10 @@ use crate::weights::{self, row_weight};
 use ph_attempts::{Attempts, Ticket};
 use ph_base::{Kind, NoMemory, Ruling, Why};
 use ph_http::{Raw, Reply};
+use ph_items::{Account, AccountType, Item, Metadata, Order, PLATFORM};
 use ph_lock::Refused;
 use ph_money::Currency;
-use ph_rows::{Account, AccountType, Item, Metadata, Order, Row, View};
+use ph_rows::{Row, View};
 use std::alloc::Global;
 use std::marker::Model;
 

@@ -2,10 +2,10 @@
 ghost use Rattle.std.specs.Prelude.{◌≡◌, ℕ, length, IfOk, None};
 ghost use Rattle.ph_rows.specs.Batches.{BatchState, empty_batch};
 ghost use Rattle.ph_rows.specs.Names.{owned_named};
-ghost use Rattle.ph_calls.specs.Outcomes.{Gives, Outcome};
+ghost use Rattle.ph_facts.specs.Outcomes.{Gives, Outcome};
 ghost use Rattle.ph_calls.specs.Reading.{reading_of};
 ghost use Rattle.ph_views.specs.Balances.{balance_doc};
-ghost use Rattle.ph_views.specs.Events.{platform};
+ghost use Rattle.ph_items.specs.Accounts.{platform};
 ghost use Rattle.ph_intents.specs.Attempts.{begun};
 ghost use Rattle.ph_intents.specs.Capture.{capture_outcome};
 ghost use Rattle.ph_book.specs.Calls.{Makes, Shows, and_opened, authenticated, called_at, carried, clock_set, created, is_key, is_platform, read_upshot, retrieved};
@@ -20,15 +20,13 @@ use ph_disputes::{close, evidence, open_due};
 use ph_errors::{ApiError, Refusal};
 use ph_http::{Raw, Reply};
 use ph_intents::{Begin, begin, begun, cancel, capture, create, fail_authentication, update};
+use ph_items::{Order, PLATFORM};
 use ph_json::Doc;
 use ph_kinds::Authentication;
 use ph_refunds::refund;
-use ph_rows::{Batch, Order, Row, View, owned_named};
+use ph_rows::{Batch, Row, View, owned_named};
 use ph_views::{balance_doc, clock_doc};
 use std::alloc::Global;
-
-/// The number of the platform's own account.
-pub const PLATFORM: u64 = 1;
 
 /// What was carried out of a call.
 #[derive(Drop)]

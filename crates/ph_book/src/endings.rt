@@ -9,7 +9,8 @@ use ph_base::{NoMemory, Ruling};
 use ph_disputes::open_due;
 use ph_http::Reply;
 use ph_intents::settle;
-use ph_rows::{AttemptState, Batch, Item, Row, View};
+use ph_items::{AttemptState, Item};
+use ph_rows::{Batch, Row, View};
 use std::alloc::Global;
 
 /// The reply to a ruling, and the rows that it makes.

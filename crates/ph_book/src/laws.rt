@@ -2,7 +2,7 @@
 ghost use Rattle.std.specs.Prelude.{◌<◌, ◌^◌};
 ghost use Rattle.ph_book.specs.History.{rows_of};
 ghost use Rattle.ph_book.specs.Legal.{IsLegal};
-ghost use Rattle.ph_book.specs.Laws.{BalancesAreSums, DisputesMoveOnce, HaveDifferentIds, RefundsFit};
+ghost use Rattle.ph_book.specs.Laws.{AmountsAreSums, BalancesAreSums, DisputesMoveOnce, HaveDifferentIds, RefundsFit};
 
 use crate::acts::Entry;
 use crate::book::Book;
@@ -33,6 +33,15 @@ pub fn ids_differ(setup: &Setup, _history: &[Entry])
 pub fn balances_are_sums(_setup: &Setup, _history: &[Entry])
     ensures { BalancesAreSums (rows_of _setup.now _history.now) }
 {}
+
+/// What was captured of a charge is the sum of its transactions of type charge, and what was refunded the sum of its
+/// refunds.
+pub fn amounts_are_sums(setup: &Setup, _history: &[Entry])
+    requires { IsLegal setup.now _history.now }
+    ensures { AmountsAreSums (rows_of setup.now _history.now) }
+{
+    few_entries(setup.entries);
+}
 
 /// The refunds of a charge never add up to more than what was captured of it.
 pub fn refunds_fit(setup: &Setup, _history: &[Entry])

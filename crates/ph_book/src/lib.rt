@@ -15,6 +15,9 @@ mod weights;
 
 pub use acts::{Act, Answer, Deed, Entry};
 pub use book::Book;
-pub use laws::{balances_are_sums, disputes_move_once, history_is_legal, ids_differ, refunds_fit};
+pub use laws::{
+    amounts_are_sums, balances_are_sums, disputes_move_once, history_is_legal, ids_differ,
+    refunds_fit,
+};
 pub use ph_lock::Refused;
 pub use setup::Setup;

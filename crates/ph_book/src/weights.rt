@@ -1,6 +1,7 @@
 //! What entries weigh, and what has no room.
 ghost use Rattle.std.specs.Prelude.{◌≡◌, ◌+◌, ◌<◌, ◌^◌, ◌*◌, length, nat_lt, option_to_list, IfSome};
-ghost use Rattle.ph_rows.specs.Weights.{rows_weight, FitsOrNone};
+ghost use Rattle.ph_rows.specs.Weights.{rows_weight};
+ghost use Rattle.ph_items.specs.Weights.{FitsOrNone};
 ghost use Rattle.ph_book.specs.Legal.{is_full_at, length_if, raw_weight};
 ghost use Rattle.ph_book.specs.declared.acts.Deed.TheVariants as deed;
 

@@ -25,8 +25,8 @@ use Rattle.ph_kinds.specs.Kept.{named_texts, pair_texts}
 use Rattle.ph_kinds.specs.Metadata.{is_metadata, metadata_in, pair_of}
 use Rattle.ph_kinds.specs.Methods.{method_in}
 use Rattle.ph_kinds.specs.Values.{metadata_at, metadata_by, named_by, payment_method_at, payment_method_in}
-use Rattle.ph_rows.specs.Sound.{clock_limit}
-use Rattle.ph_rows.specs.Weights.{with_text, method_text}
+use Rattle.ph_items.specs.Clocks.{clock_limit}
+use Rattle.ph_items.specs.Weights.{with_text, method_text}
 use Rattle.ph_calls.specs.declared.call.Call.{Call}
 use Rattle.ph_calls.specs.declared.call.Call.TheVariants as call
 use Rattle.ph_calls.specs.declared.row.Name.{Name}
@@ -35,7 +35,7 @@ use Rattle.ph_calls.specs.Check.{error_in}
 use Rattle.ph_calls.specs.Clock.{set_clock, set_clock_error}
 use Rattle.ph_calls.specs.Fit.{IsFit}
 use Rattle.ph_calls.specs.Intents.{create_intent, create_intent_error}
-use Rattle.ph_calls.specs.Keeps.{AreUtf8}
+use Rattle.ph_items.specs.Weights.{AreUtf8}
 use Rattle.ph_calls.specs.Reading.{call_of, reading_at, reading_by, reading_of, unless_error}
 use Rattle.ph_calls.specs.Refunds.{create_refund, create_refund_error}
 use Rattle.ph_calls.specs.Routes.{Route, Nowhere, To, route_in}

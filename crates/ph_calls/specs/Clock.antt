@@ -3,7 +3,7 @@ use Rattle.std.specs.Prelude.{nat_lt, List, [], ◌∷◌, Option, unwrap_or, co
 use Rattle.ph_errors.specs.declared.api_error.ApiError.{ApiError}
 use Rattle.ph_errors.specs.Table.{ParameterInvalidInteger, error_of}
 use Rattle.ph_form.specs.declared.leaf.Leaf.{Leaf}
-use Rattle.ph_rows.specs.Sound.{clock_limit}
+use Rattle.ph_items.specs.Clocks.{clock_limit}
 use Rattle.ph_kinds.specs.Numbers.{whole_in}
 use Rattle.ph_kinds.specs.Values.{value_at}
 use Rattle.ph_calls.specs.Check.{first_that_holds}

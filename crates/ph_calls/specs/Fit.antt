@@ -1,11 +1,11 @@
 -- What holds of each call that is read, so that what it adds may be entered.
 use Rattle.std.specs.Prelude.{ℕ, ◌≤◌, List, [], ◌∷◌}
-use Rattle.ph_rows.specs.Sound.{clock_limit}
-use Rattle.ph_rows.specs.Weights.{with_text, method_text}
+use Rattle.ph_items.specs.Clocks.{clock_limit}
+use Rattle.ph_items.specs.Weights.{with_text, method_text}
 use Rattle.ph_kinds.specs.Kept.{named_texts}
 use Rattle.ph_calls.specs.declared.call.Call.{Call}
 use Rattle.ph_calls.specs.declared.call.Call.TheVariants as call
-use Rattle.ph_calls.specs.Keeps.{AreUtf8}
+use Rattle.ph_items.specs.Weights.{AreUtf8}
 
 -- the texts of a call that its rows keep
 abbrev pub kept_texts : Call → List (List ℕ)

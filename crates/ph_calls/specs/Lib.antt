@@ -6,6 +6,4 @@ pub mod Refunds
 pub mod Disputes
 pub mod Clock
 pub mod Reading
-pub mod Outcomes
-pub mod Keeps
 pub mod Fit

@@ -1,9 +1,9 @@
 //! The calls, each with what its request says.
 
 use ph_base::Bytes;
+use ph_items::{CancellationReason, CaptureMethod, PaymentMethod, RefundReason};
 use ph_kinds::{Authentication, Meta};
 use ph_money::{Amount, Currency};
-use ph_rows::{CancellationReason, CaptureMethod, PaymentMethod, RefundReason};
 
 /// `POST /v1/payment_intents`
 #[derive(Drop)]

@@ -6,8 +6,8 @@ use crate::call::SetClock;
 use ph_base::NoMemory;
 use ph_errors::ApiError;
 use ph_form::Form;
+use ph_items::CLOCK_LIMIT;
 use ph_kinds::number_at;
-use ph_rows::CLOCK_LIMIT;
 use std::alloc::Global;
 
 /// The setting of the clock of a form.

@@ -1,10 +1,10 @@
 -- What a capture adds beside the payment intent's own version.
 use Rattle.std.specs.Prelude.{ℕ, List, Option, None, Some}
 use Rattle.ph_rows.specs.declared.rows.Row.{Row}
-use Rattle.ph_rows.specs.declared.charges.Charge.{Charge}
-use Rattle.ph_rows.specs.declared.event_kinds.EventKind.TheVariants as event
+use Rattle.ph_items.specs.declared.charges.Charge.{Charge}
+use Rattle.ph_items.specs.declared.event_kinds.EventKind.TheVariants as event
 use Rattle.ph_rows.specs.Batches.{BatchState, version_with, with_announced}
-use Rattle.ph_rows.specs.Items.{charge_in}
+use Rattle.ph_items.specs.Items.{charge_in}
 use Rattle.ph_charges.specs.Charges.{with_captured}
 
 -- the batch with the capture of an amount of the charge, where the item of a row is one: its version, the split, its event

@@ -1,17 +1,18 @@
--- The split of what is captured of a charge: the transaction that gives it to the account's balance.
-use Rattle.std.specs.Prelude.{ℕ, ◌+◌, ◌-◌, ◌^◌, min, Bool, true, false, pos, List, Option, None, Some}
+-- The split of what is captured of a charge: the rows that give it to the balances of accounts.
+use Rattle.std.specs.Prelude.{ℕ, ◌+◌, ◌-◌, ◌^◌, min, Bool, true, false, pos, List, [], ◌∷◌, Option, None, Some}
 use Rattle.ph_base.specs.declared.acquirer.Method.{Method}
 use Rattle.ph_base.specs.declared.acquirer.Method.TheVariants as method
 use Rattle.ph_money.specs.Fees.{fee_of}
 use Rattle.ph_rows.specs.declared.rows.Row.{Row}
-use Rattle.ph_rows.specs.declared.charges.Charge.{Charge}
-use Rattle.ph_rows.specs.declared.items.Item.TheVariants as item
-use Rattle.ph_rows.specs.declared.payment_methods.PaymentMethod.{PaymentMethod}
-use Rattle.ph_rows.specs.declared.transactions.Txn.{Txn}
-use Rattle.ph_rows.specs.declared.transactions.TxnSource.TheVariants as source
-use Rattle.ph_rows.specs.declared.transactions.TxnType.TheVariants as sort
+use Rattle.ph_items.specs.declared.charges.Charge.{Charge}
+use Rattle.ph_items.specs.declared.items.Item.TheVariants as item
+use Rattle.ph_items.specs.declared.payment_methods.PaymentMethod.{PaymentMethod}
+use Rattle.ph_items.specs.declared.transactions.Txn.{Txn}
+use Rattle.ph_items.specs.declared.transactions.TxnSource.TheVariants as source
+use Rattle.ph_items.specs.declared.transactions.TxnType.TheVariants as sort
+use Rattle.ph_charges.specs.declared.splits.SplitRow.{SplitRow}
 use Rattle.ph_rows.specs.Batches.{BatchState, last_place, version_with, with_row}
-use Rattle.ph_rows.specs.Items.{charge_in}
+use Rattle.ph_items.specs.Items.{charge_in}
 
 -- how long what is captured is pending: two days, in seconds
 abbrev pub two_days : ℕ
@@ -54,15 +55,20 @@ charge_txn object charge amount now = record {
   source = source.Charge object;
 }
 
--- the batch with the split of a captured amount: of a plain charge, its transaction
-abbrev pub with_split : ℕ → ℕ → Charge → ℕ → BatchState → BatchState
-with_split account object charge amount batch =
-    with_row batch (last_place batch + 1) account (item.Txn (charge_txn object charge amount batch.at))
+-- the split of a captured amount of a charge of an account: of a plain charge, its transaction
+abbrev pub plain_split : ℕ → ℕ → Charge → ℕ → ℕ → List SplitRow
+plain_split account object charge amount now =
+    record { account = account; item = item.Txn (charge_txn object charge amount now) } ∷ []
+
+-- the batch with the rows of a split, each the first version of a new object
+abbrev pub with_split : List SplitRow → BatchState → BatchState
+with_split [] batch = batch
+with_split (row ∷ split) batch = with_split split (with_row batch (last_place batch + 1) row.account row.item)
 
 -- the batch with the split of an amount of the charge, where the item of a row is one
 abbrev pub with_split_of : ℕ → ℕ → ℕ → BatchState → Option Charge → BatchState
 with_split_of account object amount batch None = batch
-with_split_of account object amount batch (Some charge) = with_split account object charge amount batch
+with_split_of account object amount batch (Some charge) = with_split (plain_split account object charge amount batch.at) batch
 
 -- the same for the version of the charge in a row, where there is one
 abbrev pub with_split_in : ℕ → ℕ → BatchState → Option Row → BatchState

@@ -4,7 +4,8 @@ ghost use Rattle.ph_charges.specs.Approvals.{approval_of, charge_number, decline
 
 use crate::charges::{add_captured, new_charge};
 use ph_base::NoMemory;
-use ph_rows::{Batch, CaptureMethod, Charge, ChargeStatus, EventKind, Intent, Item};
+use ph_items::{CaptureMethod, Charge, ChargeStatus, EventKind, Intent, Item};
+use ph_rows::Batch;
 use std::alloc::Global;
 
 /// Adds the charge of a payment intent that the acquirer approved, given the payment intent's account, its number and

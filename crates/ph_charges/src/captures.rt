@@ -4,8 +4,9 @@ ghost use Rattle.ph_charges.specs.Captures.{capture_of};
 
 use crate::charges::add_captured;
 use ph_base::NoMemory;
+use ph_items::EventKind;
 use ph_money::Amount;
-use ph_rows::{Batch, EventKind, View, version_with};
+use ph_rows::{Batch, View, version_with};
 use std::alloc::Global;
 
 /// Adds the capture of an amount of a charge, whose last version is in the batch or in the view: its next version,

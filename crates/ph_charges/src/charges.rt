@@ -2,10 +2,11 @@
 ghost use Rattle.std.specs.Prelude.{◌≡◌, OnOk, IfOk};
 ghost use Rattle.ph_charges.specs.Charges.{new_charge, with_captured};
 
-use crate::splits::{add_split, available_from};
+use crate::splits::{add_split, available_from, plain_split};
 use ph_base::NoMemory;
+use ph_items::{Capture, Charge, ChargeSort, ChargeStatus, Intent, Item, copy_method, copy_text};
 use ph_money::Amount;
-use ph_rows::{Batch, Capture, Charge, ChargeStatus, Intent, Item, copy_method, copy_text};
+use ph_rows::Batch;
 use std::alloc::Global;
 
 /// The charge of a payment intent on which the acquirer ruled, with a number: nothing of it is captured yet.
@@ -18,7 +19,7 @@ pub fn new_charge(
     ensures { IfOk result (λ charge. charge ≡ new_charge object intent.now status) }
 {
     Ok(Charge {
-        intent: object,
+        sort: ChargeSort::Card(object),
         amount: intent.amount,
         amount_captured: Amount::new(0),
         amount_refunded: Amount::new(0),
@@ -55,5 +56,6 @@ pub fn add_captured(
         available_on: available_from(&charge.payment_method, batch.at()),
     });
     batch.change(object, account, Item::Charge(captured))?;
-    add_split(account, object, charge, amount, batch)
+    let split = plain_split(alloc, account, object, charge, amount, batch.at())?;
+    add_split(split, batch)
 }

@@ -8,4 +8,4 @@ mod splits;
 
 pub use approvals::{approve, decline};
 pub use captures::capture;
-pub use splits::split;
+pub use splits::{SplitRow, split};

@@ -1,10 +1,12 @@
 //! The split of what is captured of a charge.
-ghost use Rattle.std.specs.Prelude.{◌≡◌, OnOk};
-ghost use Rattle.ph_charges.specs.Splits.{after_two_days, available_by, available_from, charge_txn, is_at_once, split_of, with_split};
+ghost use Rattle.std.specs.Prelude.{◌≡◌, IfOk, OnOk};
+ghost use Rattle.ph_charges.specs.Splits.{after_two_days, available_by, available_from, charge_txn, is_at_once, plain_split, split_of, with_split};
 
 use ph_base::{Method, NoMemory};
+use ph_items::{Charge, Item, PaymentMethod, Txn, TxnSource, TxnType};
 use ph_money::{Amount, SignedAmount, fee};
-use ph_rows::{Batch, Charge, Item, PaymentMethod, Txn, TxnSource, TxnType, View, version_with};
+use ph_rows::{Batch, View, version_with};
+use std::alloc::Global;
 
 // How long what is captured is pending, in seconds.
 const TWO_DAYS: u64 = 172800;
@@ -64,25 +66,48 @@ fn charge_txn(object: u64, charge: &Charge, amount: Amount, now: u64) -> Txn
     }
 }
 
-/// Adds the split of a captured amount of a charge of the account: its transaction.
-pub fn add_split(
+/// A row of a split: the first version of an object, and the account that the object belongs to.
+#[derive(Drop, Debug)]
+pub struct SplitRow {
+    pub account: u64,
+    pub item: Item,
+}
+
+/// The split of an amount that is captured now of a plain charge of the account: its transaction, of which the fee is
+/// that of the captured amount, and which counts as available after two days, or at once where the charge's payment
+/// method says so.
+pub fn plain_split(
+    alloc: Global,
     account: u64,
     object: u64,
     charge: &Charge,
     amount: Amount,
-    batch: &mut Batch,
-) -> Result<(), NoMemory>
-    ensures { OnOk result (batch.new ≡ with_split account object charge.now amount batch.old) }
+    now: u64,
+) -> Result<Vec<SplitRow>, NoMemory>
+    ensures { IfOk result (λ split. split.items ≡ plain_split account object charge.now amount now) }
 {
-    let txn = charge_txn(object, charge, amount, batch.at());
-    batch.add(account, Item::Txn(txn))?;
+    let mut split = Vec::new(alloc);
+    split.push(SplitRow {
+        account,
+        item: Item::Txn(charge_txn(object, charge, amount, now)),
+    })?;
+    Ok(split)
+}
+
+/// Adds the rows of a split, each the first version of a new object.
+pub fn add_split(split: Vec<SplitRow>, batch: &mut Batch) -> Result<(), NoMemory>
+    ensures { OnOk result (batch.new ≡ with_split split.items batch.old) }
+{
+    for row in split {
+        batch.add(row.account, row.item)?;
+    }
     Ok(())
 }
 
-/// Adds the split of a captured amount of a charge, whose last version is in the batch or in the view: its
-/// transaction, of which the fee is that of the captured amount, and which counts as available after two days, or at
-/// once where the charge's payment method says so. Where there is no such charge nothing is added.
+/// Adds the split of a captured amount of a charge, whose last version is in the batch or in the view. Where there is
+/// no such charge nothing is added.
 pub fn split<V: View>(
+    alloc: Global,
     view: &V,
     charge: u64,
     captured: Amount,
@@ -96,8 +121,6 @@ pub fn split<V: View>(
     let Some(version) = row.item.charge() else {
         return Ok(());
     };
-    let account = row.account;
-    let txn = charge_txn(charge, version, captured, batch.at());
-    batch.add(account, Item::Txn(txn))?;
-    Ok(())
+    let rows = plain_split(alloc, row.account, charge, version, captured, batch.at())?;
+    add_split(rows, batch)
 }

@@ -5,30 +5,34 @@ use Rattle.std.specs.List.{list_all, list_any}
 use Rattle.std.specs.Str.{is_utf8}
 use Rattle.std.proofs.lemmas.Bool.{cond_both, eq-eqb, false≢true, ne_eqb}
 use Rattle.std.proofs.lemmas.List.{append-nil, length-append}
-use Rattle.ph_calls.specs.Keeps.{AddsSound, IsReady, KeepsSound, batch_after, no_texts}
-use Rattle.ph_calls.specs.Outcomes.{Refuses, Adds}
+use Rattle.ph_base.specs.declared.ids.Kind.TheVariants as kind
 use Rattle.ph_errors.specs.Table.{error_of, DisputeClosed}
+use Rattle.ph_items.specs.declared.disputes.Dispute.{Dispute}
+use Rattle.ph_items.specs.declared.disputes.DisputeStatus.{DisputeStatus}
+use Rattle.ph_items.specs.declared.disputes.DisputeStatus.TheVariants as status
+use Rattle.ph_items.specs.declared.event_kinds.EventKind.TheVariants as event
+use Rattle.ph_items.specs.declared.items.Item.{Item}
+use Rattle.ph_items.specs.declared.items.Item.TheVariants as item
+use Rattle.ph_items.specs.Kinds.{kind_of}
+use Rattle.ph_items.specs.Weights.{texts_of}
 use Rattle.ph_rows.specs.declared.rows.Row.{Row}
-use Rattle.ph_rows.specs.declared.disputes.Dispute.{Dispute}
-use Rattle.ph_rows.specs.declared.disputes.DisputeStatus.{DisputeStatus}
-use Rattle.ph_rows.specs.declared.disputes.DisputeStatus.TheVariants as status
-use Rattle.ph_rows.specs.declared.event_kinds.EventKind.TheVariants as event
-use Rattle.ph_rows.specs.declared.items.Item.{Item}
-use Rattle.ph_rows.specs.declared.items.Item.TheVariants as item
 use Rattle.ph_rows.specs.Batches.{BatchState, last_place, next_row}
-use Rattle.ph_rows.specs.Entering.{IsToldBy, MayBeEntered}
-use Rattle.ph_rows.specs.Kinds.{kind_of}
-use Rattle.ph_rows.specs.Origins.{HasOrigin}
-use Rattle.ph_rows.specs.Rows.{latest_of}
-use Rattle.ph_rows.specs.Sound.{AllMayFollow, IsInOrder, MayFollow, with_next}
-use Rattle.ph_rows.specs.Transactions.{given_move, moves_in, moves_of, taken_move}
+use Rattle.ph_rows.specs.Rows.{row_at, latest_of}
 use Rattle.ph_rows.specs.Views.{ViewState}
-use Rattle.ph_rows.specs.Weights.{texts_of}
-use Rattle.ph_rows.proofs.AmountLemmas.{latest_of-last, sums_beside}
-use Rattle.ph_rows.proofs.FollowLemmas.{first_follows, further_follows, origin_stands}
-use Rattle.ph_rows.proofs.HeldLemmas.{held_beside, is_version, latest_of-apart}
-use Rattle.ph_rows.proofs.MoveLemmas.{moves_of_version}
-use Rattle.ph_rows.proofs.SoundLemmas.{order_with, order_with_all, row_at-before, row_at_within}
+use Rattle.ph_rows.proofs.RowLemmas.{is_version, latest_of-apart, latest_of-front, latest_of-last, row_at-before, row_at_within}
+use Rattle.ph_facts.specs.Amounts.{given_move, moved, moves_in, moves_of, taken_move}
+use Rattle.ph_facts.specs.Entering.{IsToldBy, MayBeEntered}
+use Rattle.ph_facts.specs.Keeps.{AddsSound, IsReady, KeepsSound, batch_after, no_texts}
+use Rattle.ph_facts.specs.Order.{AllMayFollow, IsInOrder, MayFollow, with_next}
+use Rattle.ph_facts.specs.Origins.{HasOrigins, IsOrigin, origins_of}
+use Rattle.ph_facts.specs.Outcomes.{Refuses, Adds}
+use Rattle.ph_facts.specs.Tallies.{SaysSum}
+use Rattle.ph_facts.proofs.AmountLemmas.{moved_sum}
+use Rattle.ph_facts.proofs.FollowLemmas.{first_follows, further_follows}
+use Rattle.ph_facts.proofs.HeldLemmas.{held_beside}
+use Rattle.ph_facts.proofs.LawLemmas.{laws_of_dispute}
+use Rattle.ph_facts.proofs.OrderLemmas.{order_with, order_with_all, origin_stands, origins_stand, texts_stand}
+use Rattle.ph_facts.proofs.TallyLemmas.{sum_known}
 use Rattle.ph_disputes.specs.Answers.{answered_dispute, evidence_of, evidence_outcome, given_txn, verdict_on, with_evidence, with_verdict}
 use Rattle.ph_disputes.specs.Closing.{close_of, close_outcome, lost_dispute, with_closed, with_version}
 use Rattle.ph_disputes.specs.Finding.{if_open, is_closed}
@@ -45,11 +49,11 @@ open_moves status.Lost amount e = refl
 -- a further version of a dispute that isn't closed, behind the rows of a view
 module _ (state : ViewState) (entry : ℕ) (row : Row) (dispute after : Dispute) (ready : IsReady state)
     (found : IsFound state.rows row dispute) (open_still : is_closed dispute.status ≡ false)
-    (texts : list_all is_utf8 (texts_of (item.Dispute after)) ≡ true) where
+    (texts : list_all is_utf8 (texts_of (item.Dispute after)) ≡ true) (of_it : after.charge ≡ dispute.charge) where
   abbrev begun : BatchState
   begun = batch_after state entry
 
-  room : length state.rows + 16 < 10 ^ 16
+  room : length state.rows + 64 < 10 ^ 16
   room = ready.room
 
   order : IsInOrder state
@@ -58,14 +62,22 @@ module _ (state : ViewState) (entry : ℕ) (row : Row) (dispute after : Dispute)
   abbrev version : Row
   version = next_row begun row.object row.account (item.Dispute after)
 
+  named : HasOrigins state.rows (origins_of (item.Dispute after))
+  named =
+      subst (λ (n : ℕ). HasOrigins state.rows (record { kind = kind.Charge; number = n } ∷ [])) (sym of_it)
+      (origins_stand state row (item.Dispute dispute) order found.stands found.is)
+
   version_follows : MayFollow state version
   version_follows =
       further_follows state row version order found.stands
-      (record { few = omega arith; place = omega arith; at = refl; texts = texts })
+      (record { few = omega arith; place = omega arith; at = refl })
+      (record { texts = texts; within = tt; origins = named; silent = λ event is. absurd (cc) })
       (record { object = refl; account = refl; kind = sym (ap kind_of found.is) }) refl
 
   taken : moves_of row.object state.rows ≡ taken_move dispute.amount ∷ []
-  taken = ready.sound.disputes row.object row dispute found.latest found.is ∙ open_moves dispute.status dispute.amount open_still
+  taken =
+      sym (ready.sound.laws.moved row.object row (moves_in dispute.status dispute.amount) found.latest (ap moved.said found.is))
+      ∙ open_moves dispute.status dispute.amount open_still
 
   alone_in_order : IsInOrder (record state { rows = state.rows ++ version ∷ [] })
   alone_in_order = order_with state version order version_follows
@@ -73,16 +85,19 @@ module _ (state : ViewState) (entry : ℕ) (row : Row) (dispute after : Dispute)
   -- it is told, or not
   pub version_enters : taken_move dispute.amount ∷ [] ≡ moves_in after.status after.amount
       → MayBeEntered state (with_version row after begun)
-  version_enters same = record {
-    began = refl;
-    at = refl;
-    follow = (version_follows, tt);
-    charges = sums_beside state.rows (version ∷ []) refl ready.sound.charges;
-    held = held_beside state (version ∷ []) order alone_in_order (tt, tt) ready.sound.held;
-    disputes = moves_of_version state.rows [] version after ready.sound.disputes refl refl (λ other differs. refl)
-        (append-nil (moves_of row.object state.rows) ∙ taken ∙ same);
-    told = tt;
-  }
+  version_enters same =
+      let says : SaysSum moved row.object (state.rows ++ version ∷ []) =
+      sum_known moved row.object state.rows (version ∷ []) version (moves_in after.status after.amount) moved_sum
+      (latest_of-front state.rows [] version refl) refl
+      (sym (append-nil (moves_of row.object state.rows) ∙ taken ∙ same)) in record {
+        began = refl;
+        at = refl;
+        follow = (version_follows, tt);
+        laws = laws_of_dispute state.rows (version ∷ []) row.object ready.sound.laws says
+            (λ other differs. ap (λ (b : Bool). b || false) (ne_eqb row.object other (λ alike. differs (sym alike)))) refl
+            (held_beside state (version ∷ []) order alone_in_order (tt, tt) ready.sound.laws.held);
+        told = tt;
+      }
 
   told_of_version : (more : List Row) → list_any (is_version row.object) more ≡ false
       → IsToldBy (latest_of row.object (version ∷ more)) event.DisputeClosed
@@ -98,9 +113,7 @@ module _ (state : ViewState) (entry : ℕ) (row : Row) (dispute after : Dispute)
         began = refl;
         at = refl;
         follow = enters.follow;
-        charges = enters.charges;
-        held = enters.held;
-        disputes = enters.disputes;
+        laws = enters.laws;
         told = (told_of_version [] refl, tt);
       }
 
@@ -116,16 +129,15 @@ module _ (state : ViewState) (entry : ℕ) (row : Row) (dispute after : Dispute)
   count_second : length second.rows ≡ length state.rows + 1
   count_second = length-append state.rows (version ∷ [])
 
-  source : HasOrigin second.rows (Some (record { kind = kind_of (item.Dispute dispute); number = row.object }))
+  source : IsOrigin (row_at row.object second.rows) (record { kind = kind.Dispute; number = row.object })
   source =
-      subst (λ (content : Item). HasOrigin second.rows (Some (record { kind = kind_of content; number = row.object }))) found.is
-      (origin_stands second row alone_in_order (row_at-before row.place state.rows (version ∷ []) row found.stands))
+      origin_stands second row (item.Dispute dispute) alone_in_order (row_at-before row.place state.rows (version ∷ []) row found.stands) found.is
 
   given_follows : MayFollow second given
   given_follows =
       let counted = count_second in
-      first_follows second given (record { few = omega arith; place = omega arith; at = refl; texts = refl }) (omega arith)
-      source (λ event is. absurd (cc))
+      first_follows second given (record { few = omega arith; place = omega arith; at = refl }) (omega arith)
+      (record { texts = refl; within = tt; origins = (source, tt); silent = λ event is. absurd (cc) })
 
   both_follow : AllMayFollow state (version ∷ given ∷ [])
   both_follow = (version_follows, (given_follows, tt))
@@ -142,8 +154,16 @@ module _ (state : ViewState) (entry : ℕ) (row : Row) (dispute after : Dispute)
   no_version : list_any (is_version row.object) (given ∷ []) ≡ false
   no_version = ap (λ (b : Bool). b || false) (ne_eqb given.object row.object given_is_later)
 
-  given_back : moves_of row.object (given ∷ []) ≡ given_move dispute.amount ∷ []
+  given_back : moves_of row.object (version ∷ given ∷ []) ≡ given_move dispute.amount ∷ []
   given_back = ap (λ (b : Bool). cond b (given_move dispute.amount ∷ []) [] ++ []) (eq-eqb row.object row.object refl)
+
+  won_says : taken_move dispute.amount ∷ given_move dispute.amount ∷ [] ≡ moves_in after.status after.amount
+      → SaysSum moved row.object (state.rows ++ version ∷ given ∷ [])
+  won_says same =
+      sum_known moved row.object state.rows (version ∷ given ∷ []) version (moves_in after.status after.amount) moved_sum
+      (latest_of-front state.rows (given ∷ []) version no_version) refl
+      (sym (ap (λ front. front ++ moves_of row.object (version ∷ given ∷ [])) taken
+      ∙ ap (λ back. (taken_move dispute.amount ∷ []) ++ back) given_back ∙ same))
 
   pub won_enters : taken_move dispute.amount ∷ given_move dispute.amount ∷ [] ≡ moves_in after.status after.amount
       → MayBeEntered state (with_verdict status.Won row dispute (with_version row after begun))
@@ -151,11 +171,9 @@ module _ (state : ViewState) (entry : ℕ) (row : Row) (dispute after : Dispute)
     began = refl;
     at = refl;
     follow = both_follow;
-    charges = sums_beside state.rows (version ∷ given ∷ []) refl ready.sound.charges;
-    held = held_beside state (version ∷ given ∷ []) order both_in_order (tt, (tt, tt)) ready.sound.held;
-    disputes = moves_of_version state.rows (given ∷ []) version after ready.sound.disputes refl no_version
-        (λ other differs. ap (λ (b : Bool). b || false) (ne_eqb row.object other (λ alike. differs (sym alike))))
-        (ap (λ front. front ++ moves_of row.object (given ∷ [])) taken ∙ ap (λ back. (taken_move dispute.amount ∷ []) ++ back) given_back ∙ same);
+    laws = laws_of_dispute state.rows (version ∷ given ∷ []) row.object ready.sound.laws (won_says same)
+        (λ other differs. ap (λ (b : Bool). b || ((b || false) || false)) (ne_eqb row.object other (λ alike. differs (sym alike)))) refl
+        (held_beside state (version ∷ given ∷ []) order both_in_order (tt, (tt, tt)) ready.sound.laws.held);
     told = (told_of_version (given ∷ []) no_version, tt);
   }
 
@@ -172,30 +190,30 @@ close_keeps state entry account call ready texts =
     (λ row dispute found.
     if_open_adds state dispute.status row.object
     (with_closed row (with_version row (lost_dispute dispute) (batch_after state entry)))
-    (λ still. closed_enters state entry row dispute (lost_dispute dispute) ready found still (kept row dispute found) refl))
+    (λ still. closed_enters state entry row dispute (lost_dispute dispute) ready found still (kept row dispute found) refl refl))
   where
     kept : (row : Row) (dispute : Dispute) → IsFound state.rows row dispute
         → list_all is_utf8 (texts_of (item.Dispute dispute)) ≡ true
     kept row dispute found =
-        subst (λ (content : Item). list_all is_utf8 (texts_of content) ≡ true) found.is
-        (ready.sound.order.texts row.place row found.stands)
+        texts_stand state row (item.Dispute dispute) ready.sound.order found.stands found.is
 
 -- what follows from a verdict may be entered
 verdict_enters : (state : ViewState) (entry : ℕ) (row : Row) (dispute after : Dispute) (now : DisputeStatus) → IsReady state
     → IsFound state.rows row dispute → is_closed dispute.status ≡ false
-    → list_all is_utf8 (texts_of (item.Dispute after)) ≡ true → after.amount ≡ dispute.amount → after.status ≡ now
+    → list_all is_utf8 (texts_of (item.Dispute after)) ≡ true → after.charge ≡ dispute.charge → after.amount ≡ dispute.amount
+    → after.status ≡ now
     → MayBeEntered state (with_verdict now row dispute (with_version row after (batch_after state entry)))
-verdict_enters state entry row dispute after now ready found still texts amount is = at now is
+verdict_enters state entry row dispute after now ready found still texts of_it amount is = at now is
   where
     moves : (to : DisputeStatus) → after.status ≡ to → moves_in to dispute.amount ≡ moves_in after.status after.amount
     moves to e = ap (λ (s : DisputeStatus). moves_in s dispute.amount) (sym e) ∙ ap (moves_in after.status) (sym amount)
 
     at : (to : DisputeStatus) → after.status ≡ to
         → MayBeEntered state (with_verdict to row dispute (with_version row after (batch_after state entry)))
-    at status.NeedsResponse e = version_enters state entry row dispute after ready found still texts (moves status.NeedsResponse e)
-    at status.UnderReview e = version_enters state entry row dispute after ready found still texts (moves status.UnderReview e)
-    at status.Won e = won_enters state entry row dispute after ready found still texts (moves status.Won e)
-    at status.Lost e = closed_enters state entry row dispute after ready found still texts (moves status.Lost e)
+    at status.NeedsResponse e = version_enters state entry row dispute after ready found still texts of_it (moves status.NeedsResponse e)
+    at status.UnderReview e = version_enters state entry row dispute after ready found still texts of_it (moves status.UnderReview e)
+    at status.Won e = won_enters state entry row dispute after ready found still texts of_it (moves status.Won e)
+    at status.Lost e = closed_enters state entry row dispute after ready found still texts of_it (moves status.Lost e)
 
 -- what evidence adds may be entered
 pub evidence_keeps : KeepsSound evidence_texts evidence_outcome
@@ -205,4 +223,4 @@ evidence_keeps state entry account call ready texts =
     if_open_adds state dispute.status row.object (with_evidence call.uncategorized_text row dispute (batch_after state entry))
     (λ still.
     verdict_enters state entry row dispute (answered_dispute call.uncategorized_text dispute) (verdict_on call.uncategorized_text)
-    ready found still texts refl refl))
+    ready found still texts refl refl refl))

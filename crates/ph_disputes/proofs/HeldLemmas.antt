@@ -4,18 +4,17 @@ use Rattle.std.proofs.Common.{◌≡◌, ℕ, ◌≤◌, inl, inr, Bool, true, f
 use Rattle.std.proofs.lemmas.Bool.{eqb-true}
 use Rattle.std.proofs.lemmas.List.Sums.{fold_push}
 use Rattle.ph_rows.specs.declared.rows.Row.{Row}
-use Rattle.ph_rows.specs.declared.charges.Charge.{Charge}
-use Rattle.ph_rows.specs.declared.items.Item.{Item}
-use Rattle.ph_rows.specs.declared.items.Item.TheVariants as item
-use Rattle.ph_rows.specs.Items.{charge_in}
+use Rattle.ph_items.specs.declared.charges.Charge.{Charge}
+use Rattle.ph_items.specs.declared.items.Item.{Item}
+use Rattle.ph_items.specs.declared.items.Item.TheVariants as item
+use Rattle.ph_items.specs.Items.{charge_in}
 use Rattle.ph_rows.specs.Rows.{later_version, latest_of}
-use Rattle.ph_rows.specs.Sound.{AreHeld, IsHeldBy, charge_of}
-use Rattle.ph_rows.proofs.SoundLemmas.{picked}
+use Rattle.ph_facts.specs.Held.{AreHeld, IsHeldBy, charge_of}
+use Rattle.ph_rows.proofs.RowLemmas.{picked}
 
--- a version of a charge holds what the version before held: it is of the same payment intent, and as much was authorised
--- and captured
+-- a version of a charge holds what the version before held: it is made for the same, and as much was authorised and captured
 pub record KeepsHold (before after : Charge) : Type 0 where
-  pub intent : after.intent ≡ before.intent
+  pub sort : after.sort ≡ before.sort
   pub amount : after.amount ≡ before.amount
   pub captured : after.amount_captured ≡ before.amount_captured
 
@@ -33,7 +32,7 @@ held_version rows new before after held known is keeps object row intent e inten
 
     holds_still : IsHeldBy object intent (Some before) → IsHeldBy object intent (Some after)
     holds_still h = record {
-      intent = keeps.intent ∙ h.intent;
+      sort = keeps.sort ∙ h.sort;
       amount = subst (λ n. intent.amount_capturable ≤ n) (sym keeps.amount) h.amount;
       nothing = keeps.captured ∙ h.nothing;
     }

@@ -1,35 +1,45 @@
 -- An opening may be entered with the batch to which it is added.
 use Rattle.std.specs.Prelude.{◌||◌, ◌-ℤ◌, option_and_then, neg_ℤ}
-use Rattle.std.proofs.Common.{◌≡◌, ℕ, ◌+◌, ◌^◌, ◌≤◌, ◌<◌, Bool, true, false, cond, eqb, List, [], ◌∷◌, ◌++◌, Option, None, Some, length, refl, sym, ap, ◌∙◌, subst, arith, pos}
-use Rattle.std.specs.List.{fold, list_all, list_any}
+use Rattle.std.proofs.Common.{◌≡◌, ℕ, ◌+◌, ◌^◌, ◌≤◌, ◌<◌, Bool, true, false, cond, eqb, List, [], ◌∷◌, ◌++◌, Option, None, Some, length, refl, sym, ap, ◌∙◌, subst, arith, pos, ◌+ℤ◌}
+use Rattle.std.specs.List.{fold, list_any}
 use Rattle.std.specs.Option.{option_or}
-use Rattle.std.specs.Str.{is_utf8}
 use Rattle.std.proofs.lemmas.Bool.{eq-eqb, ne_eqb}
 use Rattle.std.proofs.lemmas.Int.{ints}
 use Rattle.std.proofs.lemmas.List.{append_assoc, length-append}
+use Rattle.ph_base.specs.declared.ids.Kind.{Kind}
+use Rattle.ph_base.specs.declared.ids.Kind.TheVariants as kind
+use Rattle.ph_items.specs.declared.charges.Charge.{Charge}
+use Rattle.ph_items.specs.declared.charges.ChargeSort.{ChargeSort}
+use Rattle.ph_items.specs.declared.charges.ChargeSort.TheVariants as charge_sort
+use Rattle.ph_items.specs.declared.event_kinds.EventKind.TheVariants as event
+use Rattle.ph_items.specs.declared.items.Item.{Item}
+use Rattle.ph_items.specs.declared.items.Item.TheVariants as item
+use Rattle.ph_items.specs.Disputes.{dispute_fee}
+use Rattle.ph_items.specs.Charges.{charge_kind}
+use Rattle.ph_items.specs.Items.{card_charge_in, charge_in, if_card}
+use Rattle.ph_items.specs.Kinds.{kind_of}
 use Rattle.ph_rows.specs.declared.rows.Row.{Row}
 use Rattle.ph_rows.specs.declared.batches.Announced.{Announced}
-use Rattle.ph_rows.specs.declared.charges.Charge.{Charge}
-use Rattle.ph_rows.specs.declared.event_kinds.EventKind.TheVariants as event
-use Rattle.ph_rows.specs.declared.items.Item.{Item}
-use Rattle.ph_rows.specs.declared.items.Item.TheVariants as item
 use Rattle.ph_rows.specs.Batches.{BatchState, last_place, next_row, version_with}
-use Rattle.ph_rows.specs.Entering.{AreTold, IsToldBy, MayBeEntered}
-use Rattle.ph_rows.specs.Items.{charge_in}
-use Rattle.ph_rows.specs.Kinds.{kind_of}
-use Rattle.ph_rows.specs.Origins.{HasOrigin}
 use Rattle.ph_rows.specs.Rows.{row_at, later_version, latest_of}
-use Rattle.ph_rows.specs.Sound.{AllMayFollow, AreHeld, HasSums, HaveMoves, HaveSums, IsInOrder, IsSound, MayFollow, charge_of, with_next}
-use Rattle.ph_rows.specs.Transactions.{dispute_fee, moves_of, taken_move, Move}
 use Rattle.ph_rows.specs.Views.{ViewState}
-use Rattle.ph_rows.specs.Weights.{texts_of}
-use Rattle.ph_rows.proofs.AmountLemmas.{KeepsAmounts, kept_sums, latest_of-last}
-use Rattle.ph_rows.proofs.EnterLemmas.{told_with}
-use Rattle.ph_rows.proofs.FollowLemmas.{first_follows, follow_both, further_follows, origin_stands}
-use Rattle.ph_rows.proofs.HeldLemmas.{held_beside, is_version, latest_from, latest_of-apart}
-use Rattle.ph_rows.proofs.MoveLemmas.{moves_of-later, moves_of_version}
-use Rattle.ph_rows.proofs.PresentLemmas.{IsCharge, charge_found}
-use Rattle.ph_rows.proofs.SoundLemmas.{order_with, order_with_all, row_at-before, row_at-next, row_at_within}
+use Rattle.ph_rows.proofs.RowLemmas.{is_version, latest_from, latest_of-apart, latest_of-behind, latest_of-front, latest_of-last, row_at-before, row_at-next, row_at_within}
+use Rattle.ph_facts.specs.Amounts.{Move, captured, captured_of, moved, moves_of, refunded, refunded_of, taken_move}
+use Rattle.ph_facts.specs.Entering.{AreTold, IsToldBy, MayBeEntered}
+use Rattle.ph_facts.specs.Held.{AreHeld, charge_of}
+use Rattle.ph_facts.specs.Order.{AllMayFollow, IsInOrder, IsWithin, MayFollow, with_next}
+use Rattle.ph_facts.specs.Origins.{IsOrigin}
+use Rattle.ph_facts.specs.Sound.{IsSound, KeepLaws}
+use Rattle.ph_facts.specs.Tallies.{SaysSum}
+use Rattle.ph_facts.proofs.AmountLemmas.{captured_sum, moved_named, moved_sum, refunded_sum}
+use Rattle.ph_facts.proofs.EnterLemmas.{told_with}
+use Rattle.ph_facts.proofs.FollowLemmas.{MayStand, first_follows, follow_both, further_follows}
+use Rattle.ph_facts.proofs.HeldLemmas.{held_beside}
+use Rattle.ph_facts.proofs.LawLemmas.{SaysSums, laws_of_both, touches_charge}
+use Rattle.ph_facts.proofs.OrderLemmas.{amounts_stand, order_with, order_with_all, origin_stands, origins_stand, texts_stand}
+use Rattle.ph_facts.proofs.PresentLemmas.{IsCharge, charge_found}
+use Rattle.ph_facts.proofs.SoundLemmas.{sound_with_all}
+use Rattle.ph_facts.proofs.TallyLemmas.{sum_known, sum_later, touches}
 use Rattle.ph_disputes.specs.Due.{due_charge, open_due_of, opening_due}
 use Rattle.ph_disputes.specs.Laws.{OpeningKeepsSound}
 use Rattle.ph_disputes.specs.Opening.{disputed_charge, new_dispute, open_of, opening_in, opening_of, opening_rows, taken_txn, with_dispute, with_taken}
@@ -42,7 +52,7 @@ taken_is amount = ap (λ z. record { amount = z; fee = pos dispute_fee }) (let s
 -- the rows of a dispute of a charge, behind sound rows and at the next places
 module _ (state : ViewState) (batch : BatchState) (row : Row) (charge : Charge) (sound : IsSound state)
     (room : length state.rows + 3 < 10 ^ 16) (last : last_place batch ≡ length state.rows) (now : batch.at ≡ state.time)
-    (found : IsCharge state.rows row charge) where
+    (found : IsCharge state.rows row charge) (card : charge_kind charge.sort ≡ kind.Charge) where
   abbrev pub number : ℕ
   number = last_place batch + 1
 
@@ -88,10 +98,15 @@ module _ (state : ViewState) (batch : BatchState) (row : Row) (charge : Charge) 
   count_taking : length taking.rows ≡ length disputing.rows + 1
   count_taking = length-append disputing.rows (txn ∷ [])
 
+  charged : IsOrigin (row_at row.object state.rows) (record { kind = kind.Charge; number = row.object })
+  charged =
+      subst (λ (k : Kind). IsOrigin (row_at row.object state.rows) (record { kind = k; number = row.object })) card
+      (origin_stands state row (item.Charge charge) order found.stands found.is)
+
   opened_follows : MayFollow state opened
   opened_follows =
-      first_follows state opened (record { few = omega arith; place = omega arith; at = now; texts = refl }) (omega arith) tt
-      (λ event is. absurd (cc))
+      first_follows state opened (record { few = omega arith; place = omega arith; at = now }) (omega arith)
+      (record { texts = refl; within = tt; origins = (charged, tt); silent = λ event is. absurd (cc) })
 
   order_second : IsInOrder second
   order_second = order_with state opened order opened_follows
@@ -99,15 +114,15 @@ module _ (state : ViewState) (batch : BatchState) (row : Row) (charge : Charge) 
   opened_stands : row_at opened.place second.rows ≡ Some opened
   opened_stands = subst (λ (place : ℕ). row_at place second.rows ≡ Some opened) (sym opened_follows.place) (row_at-next state.rows opened)
 
-  source : HasOrigin second.rows (Some (record { kind = kind_of (item.Dispute (new_dispute row.object charge)); number = number }))
-  source = origin_stands second opened order_second opened_stands
+  source : IsOrigin (row_at number second.rows) (record { kind = kind.Dispute; number = number })
+  source = origin_stands second opened (item.Dispute (new_dispute row.object charge)) order_second opened_stands refl
 
   txn_follows : MayFollow second txn
   txn_follows =
       let one = count_second in
       let two = count_disputing in
-      first_follows second txn (record { few = omega arith; place = omega arith; at = now; texts = refl }) (omega arith) source
-      (λ event is. absurd (cc))
+      first_follows second txn (record { few = omega arith; place = omega arith; at = now }) (omega arith)
+      (record { texts = refl; within = tt; origins = (source, tt); silent = λ event is. absurd (cc) })
 
   order_third : IsInOrder third
   order_third = order_with second txn order_second txn_follows
@@ -115,8 +130,15 @@ module _ (state : ViewState) (batch : BatchState) (row : Row) (charge : Charge) 
   stands : row_at row.place third.rows ≡ Some row
   stands = row_at-before row.place second.rows (txn ∷ []) row (row_at-before row.place state.rows (opened ∷ []) row found.stands)
 
-  texts : list_all is_utf8 (texts_of (item.Charge charge)) ≡ true
-  texts = subst (λ (content : Item). list_all is_utf8 (texts_of content) ≡ true) found.is (order.texts row.place row found.stands)
+  kept_stands : MayStand third.rows (item.Charge after)
+  kept_stands =
+      let fits : IsWithin charge = amounts_stand state row (item.Charge charge) order found.stands found.is in
+      record {
+        texts = texts_stand state row (item.Charge charge) order found.stands found.is;
+        within = record { captured = fits.captured; refunded = fits.refunded };
+        origins = origins_stand third row (item.Charge charge) order_third stands found.is;
+        silent = λ event is. absurd (cc);
+      }
 
   kept_follows : MayFollow third kept
   kept_follows =
@@ -125,20 +147,31 @@ module _ (state : ViewState) (batch : BatchState) (row : Row) (charge : Charge) 
       let three = count_disputing in
       let four = count_taking in
       further_follows third row kept order_third stands
-      (record { few = omega arith; place = omega arith; at = now; texts = texts })
+      (record { few = omega arith; place = omega arith; at = now }) kept_stands
       (record { object = refl; account = refl; kind = sym (ap kind_of found.is) }) refl
 
   pub opening_follows : AllMayFollow state opening
   opening_follows = (opened_follows, (txn_follows, (kept_follows, tt)))
 
-  sums : HasSums row.object charge state.rows
-  sums = sound.charges row.object row charge found.latest found.is
+  latest_kept : latest_of row.object (state.rows ++ opening) ≡ Some kept
+  latest_kept = latest_of-behind state.rows (opened ∷ txn ∷ []) kept
 
-  keeps : KeepsAmounts charge after
-  keeps = record { amount = refl; captured = refl; refunded = refl }
+  pub opening_sums : SaysSums row.object (state.rows ++ opening)
+  opening_sums =
+      let was_captured : pos charge.amount_captured ≡ captured_of row.object state.rows =
+      sound.laws.captured row.object row (pos charge.amount_captured) found.latest (ap captured.said found.is) in
+      let was_refunded : charge.amount_refunded ≡ refunded_of row.object state.rows =
+      sound.laws.refunded row.object row charge.amount_refunded found.latest (ap refunded.said found.is) in
+      record {
+        captured = sum_known captured row.object state.rows opening kept (pos charge.amount_captured) captured_sum latest_kept refl
+            (let right : pos charge.amount_captured ≡ captured_of row.object state.rows +ℤ (pos 0 +ℤ (pos 0 +ℤ (pos 0 +ℤ pos 0))) =
+            omega (arith, ints) in right);
+        refunded = sum_known refunded row.object state.rows opening kept charge.amount_refunded refunded_sum latest_kept refl
+            (let right : charge.amount_refunded ≡ refunded_of row.object state.rows + (0 + (0 + (0 + 0))) = omega arith in right);
+      }
 
-  pub opening_sums : HaveSums (state.rows ++ opening)
-  opening_sums = kept_sums state.rows (opened ∷ txn ∷ []) kept charge after sound.charges sums keeps refl refl
+  opening_of_charge : (other : ℕ) → (other ≡ row.object → ⊥) → list_any (touches_charge other) opening ≡ false
+  opening_of_charge other differs = ap (λ (b : Bool). (b || b) || false) (ne_eqb row.object other (λ same. differs (sym same)))
 
   row_within : row.object ≤ length state.rows
   row_within =
@@ -164,12 +197,12 @@ module _ (state : ViewState) (batch : BatchState) (row : Row) (charge : Charge) 
   held_third : AreHeld third.rows
   held_third =
       held_beside second (txn ∷ []) order_second order_third (tt, tt)
-      (held_beside state (opened ∷ []) order order_second (tt, tt) sound.held)
+      (held_beside state (opened ∷ []) order order_second (tt, tt) sound.laws.held)
 
   pub opening_held : AreHeld (state.rows ++ opening)
   opening_held =
       subst AreHeld (append_assoc second.rows (txn ∷ []) (kept ∷ []) ∙ append_assoc state.rows (opened ∷ []) (txn ∷ kept ∷ []))
-      (held_version third.rows kept charge after held_third known refl (record { intent = refl; amount = refl; captured = refl }))
+      (held_version third.rows kept charge after held_third known refl (record { sort = refl; amount = refl; captured = refl }))
 
   kept_differs : row.object ≡ number → ⊥
   kept_differs same = opened_is_later (sym same)
@@ -183,19 +216,26 @@ module _ (state : ViewState) (batch : BatchState) (row : Row) (charge : Charge) 
       ∙ ap (λ (b : Bool). b || false) (ne_eqb row.object number kept_differs)
 
   nothing_before : moves_of number state.rows ≡ []
-  nothing_before = moves_of-later state number order (omega arith)
+  nothing_before = sum_later moved state number moved_sum moved_named order (omega arith)
 
-  moved : moves_of number (txn ∷ kept ∷ []) ≡ taken_move charge.amount_captured ∷ []
-  moved =
+  moved_now : moves_of number opening ≡ taken_move charge.amount_captured ∷ []
+  moved_now =
       ap (λ (b : Bool). cond b (record { amount = neg_ℤ (pos charge.amount_captured); fee = pos dispute_fee } ∷ []) [] ++ [])
       (eq-eqb number number refl)
       ∙ ap (λ (move : Move). move ∷ []) (sym (taken_is charge.amount_captured))
 
-  pub opening_moves : HaveMoves (state.rows ++ opening)
+  pub opening_moves : SaysSum moved number (state.rows ++ opening)
   opening_moves =
-      moves_of_version state.rows (txn ∷ kept ∷ []) opened (new_dispute row.object charge) sound.disputes refl no_version
-      (λ other differs. ap (λ (b : Bool). b || false) (ne_eqb number other (λ same. differs (sym same))))
-      (ap (λ front. front ++ moves_of number (txn ∷ kept ∷ [])) nothing_before ∙ moved)
+      sum_known moved number state.rows opening opened (taken_move charge.amount_captured ∷ []) moved_sum
+      (latest_of-front state.rows (txn ∷ kept ∷ []) opened no_version) refl
+      (sym (ap (λ front. front ++ moves_of number opening) nothing_before ∙ moved_now))
+
+  opening_of_dispute : (other : ℕ) → (other ≡ number → ⊥) → list_any (touches moved other) opening ≡ false
+  opening_of_dispute other differs = ap (λ (b : Bool). b || ((b || false) || false)) (ne_eqb number other (λ same. differs (sym same)))
+
+  pub opening_laws : KeepLaws (state.rows ++ opening)
+  opening_laws =
+      laws_of_both state.rows opening row.object number sound.laws opening_sums opening_of_charge opening_moves opening_of_dispute opening_held
 
   pub opening_latest : (rows : List Row) → latest_of number (rows ++ opening) ≡ Some opened
   opening_latest rows =
@@ -212,29 +252,22 @@ told_push rows (first ∷ announced) told tells last = (tells.0, told_push rows 
 -- the view with the rows of a batch that may be entered is sound
 whole_sound : (state : ViewState) (batch : BatchState) → IsSound state → MayBeEntered state batch
     → IsSound (record state { rows = state.rows ++ batch.rows })
-whole_sound state batch sound enters = record {
-  order = order_with_all state batch.rows sound.order enters.follow;
-  charges = enters.charges;
-  held = enters.held;
-  disputes = enters.disputes;
-}
+whole_sound state batch sound enters = sound_with_all state batch.rows sound enters.follow enters.laws
 
 -- the opening of a dispute of a charge may be entered with the batch to which it is added
 opening_enters : (state : ViewState) (batch : BatchState) (row : Row) (charge : Charge) → IsSound state → MayBeEntered state batch
     → length state.rows + length batch.rows + 3 < 10 ^ 16 → IsCharge (state.rows ++ batch.rows) row charge
-    → MayBeEntered state (opening_rows row.account row.object charge (last_place batch + 1) batch)
-opening_enters state batch row charge sound enters room found = record {
+    → charge_kind charge.sort ≡ kind.Charge → MayBeEntered state (opening_rows row.account row.object charge (last_place batch + 1) batch)
+opening_enters state batch row charge sound enters room found card = record {
   began = enters.began;
   at = enters.at;
   follow = subst (AllMayFollow state) (sym grouped) (follow_both state batch.rows more enters.follow follows);
-  charges = subst HaveSums (sym apart) (opening_sums whole batch row charge steady few last enters.at found);
-  held = subst AreHeld (sym apart) (opening_held whole batch row charge steady few last enters.at found);
-  disputes = subst HaveMoves (sym apart) (opening_moves whole batch row charge steady few last enters.at found);
+  laws = subst KeepLaws (sym apart) (opening_laws whole batch row charge steady few last enters.at found card);
   told = subst (λ (rows : List Row). AreTold rows (batch.announced ++ news ∷ [])) (sym grouped)
       (told_push (batch.rows ++ more) batch.announced news
       (told_with state batch.rows more batch.announced (order_with_all state (batch.rows ++ more) sound.order (follow_both state batch.rows more enters.follow follows)) enters.told)
       (subst (λ (o : Option Row). IsToldBy o event.DisputeCreated)
-      (sym (opening_latest whole batch row charge steady few last enters.at found batch.rows)) refl));
+      (sym (opening_latest whole batch row charge steady few last enters.at found card batch.rows)) refl));
 }
   where
     whole : ViewState
@@ -253,10 +286,10 @@ opening_enters state batch row charge sound enters room found = record {
     last = let counted = count in let began : batch.began ≡ length state.rows = enters.began in omega arith
 
     more : List Row
-    more = opening whole batch row charge steady few last enters.at found
+    more = opening whole batch row charge steady few last enters.at found card
 
     follows : AllMayFollow whole more
-    follows = opening_follows whole batch row charge steady few last enters.at found
+    follows = opening_follows whole batch row charge steady few last enters.at found card
 
     news : Announced
     news = record { sort = event.DisputeCreated; object = last_place batch + 1 }
@@ -281,6 +314,22 @@ fold_or object found (x ∷ more) =
     either None false = refl
     either (Some last) b = refl
 
+-- the card charge that an item is, is a charge of that kind
+card_in : (content : Item) (charge : Charge) → card_charge_in content ≡ Some charge
+    → (charge_in content ≡ Some charge) × (charge_kind charge.sort ≡ kind.Charge)
+card_in content charge e = at (charge_in content) e
+  where
+    by : (version : Charge) (sort : ChargeSort) → version.sort ≡ sort → if_card sort version ≡ Some charge
+        → (Some version ≡ Some charge) × (charge_kind charge.sort ≡ kind.Charge)
+    by version (charge_sort.Card intent) s e =
+        let same : version ≡ charge = cc in (e, ap (λ (c : Charge). charge_kind c.sort) (sym same) ∙ ap charge_kind s)
+    by version (charge_sort.Payment transfer) s e = absurd (cc)
+
+    at : (found : Option Charge) → option_and_then (λ (version : Charge). if_card version.sort version) found ≡ Some charge
+        → (found ≡ Some charge) × (charge_kind charge.sort ≡ kind.Charge)
+    at None e = absurd (cc)
+    at (Some version) e = by version version.sort refl e
+
 -- what the opening of a dispute of a charge adds may be entered
 pub open_keeps : OpeningKeepsSound open_of
 open_keeps state batch object sound enters room = at (version_with state.rows batch object) refl
@@ -288,18 +337,19 @@ open_keeps state batch object sound enters room = at (version_with state.rows ba
     latest : (row : Row) → version_with state.rows batch object ≡ Some row → latest_of object (state.rows ++ batch.rows) ≡ Some row
     latest row e = latest_from object None state.rows batch.rows ∙ fold_or object (latest_of object state.rows) batch.rows ∙ e
 
-    of_charge : (row : Row) → version_with state.rows batch object ≡ Some row → (o : Option Charge) → charge_in row.item ≡ o
+    of_charge : (row : Row) → version_with state.rows batch object ≡ Some row → (o : Option Charge) → card_charge_in row.item ≡ o
         → MayBeEntered state (opening_of row.account object batch o)
     of_charge row e None is = enters
     of_charge row e (Some charge) is =
         let steady = whole_sound state batch sound enters in
-        let found = charge_found (record state { rows = state.rows ++ batch.rows }) object row charge steady (latest row e) is in
+        let there = card_in row.item charge is in
+        let found = charge_found (record state { rows = state.rows ++ batch.rows }) object row charge steady (latest row e) there.0 in
         subst (λ (n : ℕ). MayBeEntered state (opening_rows row.account n charge (last_place batch + 1) batch)) found.1
-        (opening_enters state batch row charge sound enters room found.0)
+        (opening_enters state batch row charge sound enters room found.0 there.1)
 
     at : (o : Option Row) → version_with state.rows batch object ≡ o → MayBeEntered state (opening_in object batch o)
     at None e = enters
-    at (Some row) e = of_charge row e (charge_in row.item) refl
+    at (Some row) e = of_charge row e (card_charge_in row.item) refl
 
 -- what the opening of a dispute that is due adds may be entered
 pub open_due_keeps : OpeningKeepsSound open_due_of

@@ -2,15 +2,15 @@
 use Rattle.std.specs.Prelude.{ℕ, ◌+◌, pos, if◌then◌else◌, List, Some, codes}
 use Rattle.std.specs.Str.{bytes_eq}
 use Rattle.ph_calls.specs.declared.call.SendEvidence.{SendEvidence}
-use Rattle.ph_calls.specs.Outcomes.{Outcome}
+use Rattle.ph_facts.specs.Outcomes.{Outcome}
 use Rattle.ph_rows.specs.declared.rows.Row.{Row}
-use Rattle.ph_rows.specs.declared.disputes.Dispute.{Dispute}
-use Rattle.ph_rows.specs.declared.disputes.DisputeStatus.{DisputeStatus}
-use Rattle.ph_rows.specs.declared.disputes.DisputeStatus.TheVariants as status
-use Rattle.ph_rows.specs.declared.items.Item.TheVariants as item
-use Rattle.ph_rows.specs.declared.transactions.Txn.{Txn}
-use Rattle.ph_rows.specs.declared.transactions.TxnSource.TheVariants as source
-use Rattle.ph_rows.specs.declared.transactions.TxnType.TheVariants as sort
+use Rattle.ph_items.specs.declared.disputes.Dispute.{Dispute}
+use Rattle.ph_items.specs.declared.disputes.DisputeStatus.{DisputeStatus}
+use Rattle.ph_items.specs.declared.disputes.DisputeStatus.TheVariants as status
+use Rattle.ph_items.specs.declared.items.Item.TheVariants as item
+use Rattle.ph_items.specs.declared.transactions.Txn.{Txn}
+use Rattle.ph_items.specs.declared.transactions.TxnSource.TheVariants as source
+use Rattle.ph_items.specs.declared.transactions.TxnType.TheVariants as sort
 use Rattle.ph_rows.specs.Batches.{BatchState, last_place, with_row}
 use Rattle.ph_disputes.specs.Closing.{with_closed, with_version}
 use Rattle.ph_disputes.specs.Finding.{if_open, made_at}

@@ -4,12 +4,12 @@ use Rattle.std.specs.Option.{is_some}
 use Rattle.ph_base.specs.declared.acquirer.Method.{Method}
 use Rattle.ph_base.specs.declared.acquirer.Method.TheVariants as method
 use Rattle.ph_rows.specs.declared.rows.Row.{Row}
-use Rattle.ph_rows.specs.declared.charges.Charge.{Charge}
-use Rattle.ph_rows.specs.declared.payment_methods.PaymentMethod.{PaymentMethod}
+use Rattle.ph_items.specs.declared.charges.Charge.{Charge}
+use Rattle.ph_items.specs.declared.payment_methods.PaymentMethod.{PaymentMethod}
 use Rattle.ph_rows.specs.Batches.{BatchState}
-use Rattle.ph_rows.specs.Items.{latest_charge_in}
+use Rattle.ph_items.specs.Items.{latest_charge_in}
 use Rattle.ph_rows.specs.Rows.{latest_of}
-use Rattle.ph_rows.specs.Sound.{charge_of}
+use Rattle.ph_facts.specs.Held.{charge_of}
 use Rattle.ph_disputes.specs.Opening.{open_of}
 
 -- whether what a method pays is disputed

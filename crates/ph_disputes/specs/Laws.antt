@@ -3,8 +3,8 @@ use Rattle.std.specs.Prelude.{ℕ, ◌+◌, ◌^◌, ◌<◌, List, [], ◌∷�
 use Rattle.ph_calls.specs.declared.call.SendEvidence.{SendEvidence}
 use Rattle.ph_rows.specs.declared.rows.Row.{Row}
 use Rattle.ph_rows.specs.Batches.{BatchState}
-use Rattle.ph_rows.specs.Entering.{MayBeEntered}
-use Rattle.ph_rows.specs.Sound.{IsSound}
+use Rattle.ph_facts.specs.Entering.{MayBeEntered}
+use Rattle.ph_facts.specs.Sound.{IsSound}
 use Rattle.ph_rows.specs.Views.{ViewState}
 
 -- the texts of a call that its dispute keeps

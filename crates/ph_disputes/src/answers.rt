@@ -1,6 +1,6 @@
 //! The evidence against a dispute.
 ghost use Rattle.std.specs.Prelude.{◌≡◌, IfOk, OnOk};
-ghost use Rattle.ph_calls.specs.Outcomes.{Gives};
+ghost use Rattle.ph_facts.specs.Outcomes.{Gives};
 ghost use Rattle.ph_disputes.specs.Answers.{answered_dispute, evidence_of, evidence_outcome, given_txn, verdict_on, with_evidence, with_given, with_verdict};
 
 use crate::closing::add_version;
@@ -8,10 +8,9 @@ use crate::finding::is_closed;
 use ph_base::{Bytes, Kind, NoMemory};
 use ph_calls::SendEvidence;
 use ph_errors::{ApiError, Refusal};
+use ph_items::{Dispute, DisputeStatus, EventKind, Item, Txn, TxnSource, TxnType};
 use ph_money::SignedAmount;
-use ph_rows::{
-    Batch, Dispute, DisputeStatus, EventKind, Item, Row, Txn, TxnSource, TxnType, View, owned_named,
-};
+use ph_rows::{Batch, Row, View, owned_named};
 use std::alloc::Global;
 
 // Where a text leaves a dispute.

@@ -1,13 +1,14 @@
 //! The close of a dispute.
 ghost use Rattle.std.specs.Prelude.{◌≡◌, IfOk, OnOk};
-ghost use Rattle.ph_calls.specs.Outcomes.{Gives};
+ghost use Rattle.ph_facts.specs.Outcomes.{Gives};
 ghost use Rattle.ph_disputes.specs.Closing.{close_of, close_outcome, lost_dispute, with_version};
 
 use crate::finding::is_closed;
 use ph_base::{Kind, NoMemory};
 use ph_calls::CloseDispute;
 use ph_errors::{ApiError, Refusal};
-use ph_rows::{Batch, Dispute, DisputeStatus, EventKind, Item, Row, View, owned_named};
+use ph_items::{Dispute, DisputeStatus, EventKind, Item};
+use ph_rows::{Batch, Row, View, owned_named};
 use std::alloc::Global;
 
 /// Adds a further version of the dispute in a row.

@@ -4,7 +4,8 @@ ghost use Rattle.ph_disputes.specs.Due.{due_charge, is_disputed_by, is_disputing
 
 use crate::opening::open;
 use ph_base::{Method, NoMemory};
-use ph_rows::{Batch, Charge, PaymentMethod, View};
+use ph_items::{Charge, PaymentMethod};
+use ph_rows::{Batch, View};
 use std::alloc::Global;
 
 // Whether what a method pays is disputed.

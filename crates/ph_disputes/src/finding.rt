@@ -2,7 +2,7 @@
 ghost use Rattle.std.specs.Prelude.{◌≡◌};
 ghost use Rattle.ph_disputes.specs.Finding.{is_closed};
 
-use ph_rows::DisputeStatus;
+use ph_items::DisputeStatus;
 
 /// Whether a dispute is closed: won or lost.
 pub fn is_closed(status: DisputeStatus) -> bool

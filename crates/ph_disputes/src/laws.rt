@@ -1,5 +1,5 @@
 //! Laws of disputes.
-ghost use Rattle.ph_calls.specs.Keeps.{KeepsSound, no_texts};
+ghost use Rattle.ph_facts.specs.Keeps.{KeepsSound, no_texts};
 ghost use Rattle.ph_disputes.specs.Answers.{evidence_outcome};
 ghost use Rattle.ph_disputes.specs.Closing.{close_outcome};
 ghost use Rattle.ph_disputes.specs.Due.{open_due_of};

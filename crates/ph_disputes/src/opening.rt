@@ -4,11 +4,9 @@ ghost use Rattle.ph_rows.specs.Batches.{last_place};
 ghost use Rattle.ph_disputes.specs.Opening.{disputed_charge, new_dispute, open_of, opened_number, opening_rows, taken_txn, with_disputed, with_taken};
 
 use ph_base::NoMemory;
+use ph_items::{Charge, Dispute, DisputeStatus, EventKind, Item, Txn, TxnSource, TxnType};
 use ph_money::SignedAmount;
-use ph_rows::{
-    Batch, Charge, Dispute, DisputeStatus, EventKind, Item, Txn, TxnSource, TxnType, View,
-    version_with,
-};
+use ph_rows::{Batch, View, version_with};
 use std::alloc::Global;
 
 // The fee of a dispute, in minor units of its currency.
@@ -20,7 +18,7 @@ fn new_dispute(object: u64, charge: &Charge) -> Dispute
 {
     Dispute {
         charge: object,
-        intent: charge.intent,
+        intent: charge.sort.intent(),
         amount: charge.amount_captured,
         currency: charge.currency,
         status: DisputeStatus::NeedsResponse,
@@ -94,7 +92,7 @@ fn add_opening(
     Ok(number)
 }
 
-/// Opens a dispute of a charge, whose last version is in the batch or in the view: it adds the dispute, which is the
+/// Opens a dispute of a card charge, whose last version is in the batch or in the view: it adds the dispute, which is the
 /// next place, of all that was captured; the transaction that takes this amount and the fee of the dispute at once; the
 /// version of the charge that has the dispute; and the announcement `charge.dispute.created`. The answer is the
 /// dispute's number. Where there is no such charge nothing is added, and the answer is 0.
@@ -110,7 +108,7 @@ pub fn open<V: View>(
     let Some(row) = version_with(view, batch, charge) else {
         return Ok(0);
     };
-    let Some(version) = row.item.charge() else {
+    let Some(version) = row.item.card_charge() else {
         return Ok(0);
     };
     let account = row.account;

@@ -3,7 +3,7 @@ use Rattle.std.proofs.Common.{◌≡◌, ℕ, ◌≤◌, Bool, true, false, cond
 use Rattle.std.specs.Option.{unwrap_or, option_and_then}
 use Rattle.std.proofs.lemmas.Bool.Decides.{nat_tests}
 use Rattle.ph_base.specs.Numbers.{number_in}
-use Rattle.ph_rows.specs.Sound.{clock_limit}
+use Rattle.ph_items.specs.Clocks.{clock_limit}
 use Rattle.ph_book.specs.Legal.{IsLegal}
 use Rattle.ph_host.specs.Options.{if_shown, moment_in}
 use Rattle.ph_host.specs.Runs.{new_book}

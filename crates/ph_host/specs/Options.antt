@@ -2,7 +2,7 @@
 use Rattle.std.specs.Prelude.{ℕ, Bool, true, false, ◌&&◌, ◌||◌, nat_le, bytes_eq, if◌then◌else◌, List, [], ◌∷◌, length, take, codes, Option, Some, None, is_some, is_none}
 use Rattle.std.specs.List.{list_all}
 use Rattle.ph_base.specs.Numbers.{number_in}
-use Rattle.ph_rows.specs.Sound.{clock_limit}
+use Rattle.ph_items.specs.Clocks.{clock_limit}
 
 -- a byte from `!` to `~`
 abbrev pub is_visible : ℕ → Bool

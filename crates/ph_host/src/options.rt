@@ -4,7 +4,7 @@ ghost use Rattle.std.specs.List.{list_all};
 ghost use Rattle.ph_host.specs.Options.{are_options, given, is_api_key, is_option, is_visible, moment_in, patience_in, takes};
 
 use ph_base::{Bytes, read_number};
-use ph_rows::CLOCK_LIMIT;
+use ph_items::CLOCK_LIMIT;
 
 // How many further polls a patience grants at most.
 const MOST_POLLS: u64 = 1_000_000;

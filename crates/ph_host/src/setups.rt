@@ -1,6 +1,6 @@
 //! The setup that the words of the command line name.
 ghost use Rattle.std.specs.Prelude.{◌≡◌, ◌≤◌, IfOk, drop};
-ghost use Rattle.ph_rows.specs.Sound.{clock_limit};
+ghost use Rattle.ph_items.specs.Clocks.{clock_limit};
 ghost use Rattle.ph_host.specs.Runs.{new_book};
 ghost use Rattle.ph_host.specs.Setups.{key_of, opened_of};
 

@@ -7,22 +7,28 @@ use Rattle.ph_charges.specs.Charges.{with_captured}
 use Rattle.ph_charges.proofs.EntryLemmas.{capture_underway}
 use Rattle.ph_charges.proofs.SumLemmas as sums
 use Rattle.ph_rows.specs.declared.rows.Row.{Row}
-use Rattle.ph_rows.specs.declared.charges.Charge.{Charge}
-use Rattle.ph_rows.specs.declared.event_kinds.EventKind.TheVariants as event
-use Rattle.ph_rows.specs.declared.intents.Intent.{Intent}
-use Rattle.ph_rows.specs.declared.intents.IntentStatus.{IntentStatus}
-use Rattle.ph_rows.specs.declared.intents.IntentStatus.TheVariants as status
-use Rattle.ph_rows.specs.declared.items.Item.TheVariants as item
+use Rattle.ph_items.specs.declared.charges.Charge.{Charge}
+use Rattle.ph_items.specs.declared.charges.ChargeSort.TheVariants as charge_sort
+use Rattle.ph_items.specs.Charges.{charge_kind}
+use Rattle.ph_items.specs.declared.event_kinds.EventKind.TheVariants as event
+use Rattle.ph_items.specs.declared.intents.Intent.{Intent}
+use Rattle.ph_items.specs.declared.intents.IntentStatus.{IntentStatus}
+use Rattle.ph_items.specs.declared.intents.IntentStatus.TheVariants as status
+use Rattle.ph_items.specs.declared.items.Item.TheVariants as item
 use Rattle.ph_rows.specs.Batches.{BatchState, next_row, with_row, with_announced}
-use Rattle.ph_rows.specs.Entering.{MayBeEntered}
-use Rattle.ph_rows.specs.Items.{charge_in}
-use Rattle.ph_rows.specs.Kinds.{kind_of}
+use Rattle.ph_facts.specs.Entering.{MayBeEntered}
+use Rattle.ph_items.specs.Items.{charge_in}
+use Rattle.ph_items.specs.Kinds.{kind_of}
 use Rattle.ph_rows.specs.Rows.{latest_of}
-use Rattle.ph_rows.specs.Sound.{HaveSums, Holds, IsHeldBy, charge_of}
+use Rattle.ph_facts.specs.Origins.{origins_of}
+use Rattle.ph_facts.specs.Sound.{KeepLaws}
+use Rattle.ph_facts.specs.Held.{AreHeld, Holds, IsHeldBy, charge_of}
 use Rattle.ph_rows.specs.Views.{ViewState}
-use Rattle.ph_rows.proofs.ChargeLemmas.{second_fails}
-use Rattle.ph_rows.proofs.HeldLemmas.{AllLeave, another_is_apart, held_known}
-use Rattle.ph_rows.proofs.UnderwayLemmas.{IsUnderway, underway_further, underway_told}
+use Rattle.ph_rows.proofs.RowLemmas.{second_fails}
+use Rattle.ph_facts.proofs.HeldLemmas.{AllLeave, another_is_apart, held_known}
+use Rattle.ph_facts.proofs.OrderLemmas.{origins_stand}
+use Rattle.ph_facts.proofs.OriginLemmas.{have_begun-before}
+use Rattle.ph_facts.proofs.UnderwayLemmas.{IsUnderway, underway_further, underway_told}
 use Rattle.ph_intents.specs.Capture.{capture_of, capture_outcome, capture_amount, received_intent, with_charge_captured}
 use Rattle.ph_intents.specs.Keeps.{AddsSound, IsReady, KeepsSound, batch_after, no_texts}
 use Rattle.ph_intents.specs.Refusals.{invalid_value}
@@ -42,7 +48,7 @@ captured_enters : (state : ViewState) (entry account : ℕ) (row : Row) (intent 
     → MayBeEntered state (with_told account row.object (received_intent amount intent found) event.IntentSucceeded (with_charge_captured state.rows amount (Some n) (batch_after state entry)))
 captured_enters state entry account row intent n last charge amount found ready there latest is holds within succeeded =
     subst (λ (b : BatchState). MayBeEntered state (with_told account row.object received event.IntentSucceeded b)) (sym captured_is)
-    (enters state (with_told account row.object received event.IntentSucceeded captured) row.object ready.sound told kept refl leave
+    (enters state (with_told account row.object received event.IntentSucceeded captured) row.object ready.sound told kept leave
     (held_known row.object (state.rows ++ (captured.rows ++ version ∷ [])) version received
     (last_version state.rows captured row.object account (item.Intent received)) refl
     (λ here. absurd (let e : status.Succeeded ≡ status.RequiresCapture = succeeded ∙ here in cc))))
@@ -62,30 +68,38 @@ captured_enters state entry account row intent n last charge amount found ready 
     captured_is : with_charge_captured state.rows amount (Some n) batch ≡ captured
     captured_is = sums.capture_is state.rows n amount batch last charge refl latest is
 
+    enough : amount ≤ charge.amount
+    enough = let authorised : intent.amount_capturable ≤ charge.amount = holds.amount in omega arith
+
     told : IsUnderway state (with_told account row.object received event.IntentSucceeded captured)
     told =
         let room = ready.room in
         underway_told state captured row.object account (item.Intent received) event.IntentSucceeded
         (subst (λ (owner : ℕ). IsUnderway state (with_row captured row.object owner (item.Intent received))) there.owner
         (underway_further state captured row (item.Intent received) ready.sound.order
-        (capture_underway state batch n amount last charge ready.sound (begins state entry) (omega arith) latest is)
+        (capture_underway state batch n amount last charge ready.sound (begins state entry) (omega arith) latest is
+        (ap charge_kind holds.sort) holds.nothing enough)
         there.stands (omega arith)
-        (record { texts = found_texts state account row intent ready.sound there; origins = tt; silent = λ event is. absurd (cc) })
+        (record {
+          texts = found_texts state account row intent ready.sound there;
+          within = tt;
+          origins = have_begun-before state.rows captured.rows (origins_of (item.Intent intent)) (origins_stand state row (item.Intent intent) ready.sound.order there.stands there.is);
+          silent = λ event is. absurd (cc);
+        })
         (record { kind = ap kind_of (sym there.is); changes = refl }))) refl
 
-    kept : HaveSums (state.rows ++ (captured.rows ++ version ∷ []))
+    kept : AreHeld (state.rows ++ (captured.rows ++ version ∷ [])) → KeepLaws (state.rows ++ (captured.rows ++ version ∷ []))
     kept =
-        let enough : intent.amount_capturable ≤ charge.amount = holds.amount in
-        subst (λ (b : BatchState). HaveSums (state.rows ++ (b.rows ++ version ∷ []))) captured_is
-        (sums.capture_keeps state n amount batch (version ∷ []) last charge ready.sound refl refl latest is holds.nothing
-        (omega arith) (λ other. refl) (λ other. refl))
+        subst (λ (b : BatchState). AreHeld (state.rows ++ (b.rows ++ version ∷ [])) → KeepLaws (state.rows ++ (b.rows ++ version ∷ []))) captured_is
+        (sums.capture_keeps state n amount batch (version ∷ []) last charge ready.sound refl refl latest is holds.nothing refl refl)
 
     known : charge_of state.rows n ≡ Some charge
     known = ap (option_and_then (λ (r : Row). charge_in r.item)) latest ∙ ap charge_in is
 
     leave : (other : ℕ) → (other ≡ row.object → ⊥) → AllLeave state.rows other (captured.rows ++ version ∷ [])
     leave other differs = (
-      another_is_apart state.rows other n charge (ready.sound.held other) known (λ same. differs (sym same ∙ holds.intent)),
+      another_is_apart state.rows other n charge (ready.sound.laws.held other) known
+          (λ same. differs (let both : charge_sort.Card other ≡ charge_sort.Card row.object = sym same ∙ holds.sort in cc)),
       (tt, (λ same. differs (sym same), tt)),
     )
 
@@ -123,4 +137,4 @@ capture_keeps state entry account call ready texts =
         (λ bounds.
         let no_more : nat_lt intent.amount_capturable amount ≡ false = second_fails (amount == 0) (nat_lt intent.amount_capturable amount) bounds in
         of_charge row intent there found amount (grind (arith, nat_tests)) step.1 intent.latest_charge
-        (ready.sound.held row.object row intent there.latest there.is step.0))
+        (ready.sound.laws.held row.object row intent there.latest there.is step.0))

@@ -9,26 +9,28 @@ use Rattle.ph_base.specs.declared.acquirer.Method.{Method}
 use Rattle.ph_base.specs.declared.ids.Kind.TheVariants as kind
 use Rattle.ph_rows.specs.declared.rows.Row.{Row}
 use Rattle.ph_rows.specs.declared.batches.Announced.{Announced}
-use Rattle.ph_rows.specs.declared.event_kinds.EventKind.{EventKind}
-use Rattle.ph_rows.specs.declared.event_kinds.EventKind.TheVariants as event
-use Rattle.ph_rows.specs.declared.intents.Intent.{Intent}
-use Rattle.ph_rows.specs.declared.intents.IntentStatus.TheVariants as status
-use Rattle.ph_rows.specs.declared.items.Item.{Item}
-use Rattle.ph_rows.specs.declared.items.Item.TheVariants as item
+use Rattle.ph_items.specs.declared.event_kinds.EventKind.{EventKind}
+use Rattle.ph_items.specs.declared.event_kinds.EventKind.TheVariants as event
+use Rattle.ph_items.specs.declared.intents.Intent.{Intent}
+use Rattle.ph_items.specs.declared.intents.IntentStatus.TheVariants as status
+use Rattle.ph_items.specs.declared.items.Item.{Item}
+use Rattle.ph_items.specs.declared.items.Item.TheVariants as item
 use Rattle.ph_rows.specs.Batches.{BatchState, last_place, next_row, with_row}
-use Rattle.ph_rows.specs.Entering.{MayBeEntered}
-use Rattle.ph_rows.specs.Kinds.{kind_of}
+use Rattle.ph_facts.specs.Entering.{MayBeEntered}
+use Rattle.ph_items.specs.Kinds.{kind_of}
 use Rattle.ph_rows.specs.Rows.{later_version, latest_of}
-use Rattle.ph_rows.specs.Sound.{HaveSums, IsHeldAt, IsHeldBy, IsSound, charge_of}
+use Rattle.ph_facts.specs.Origins.{HasOrigins, charge_named}
+use Rattle.ph_facts.specs.Sound.{IsSound, KeepLaws}
+use Rattle.ph_facts.specs.Held.{AreHeld, IsHeldAt, IsHeldBy, charge_of}
 use Rattle.ph_rows.specs.Views.{ViewState}
-use Rattle.ph_rows.specs.Weights.{texts_of}
-use Rattle.ph_rows.specs.Words.{subject_of}
-use Rattle.ph_rows.proofs.AmountLemmas.{latest_of-last}
-use Rattle.ph_rows.proofs.ChargeLemmas.{sums_stay, touches}
-use Rattle.ph_rows.proofs.HeldLemmas.{AllLeave, held_known, held_of_others}
-use Rattle.ph_rows.proofs.MoveLemmas.{is_of_dispute, moves_stay}
-use Rattle.ph_rows.proofs.SoundLemmas.{order_with_all}
-use Rattle.ph_rows.proofs.UnderwayLemmas.{IsUnderway, underway_first, underway_told}
+use Rattle.ph_items.specs.Weights.{texts_of}
+use Rattle.ph_items.specs.Words.{subject_of}
+use Rattle.ph_rows.proofs.RowLemmas.{latest_of-last}
+use Rattle.ph_facts.proofs.HeldLemmas.{AllLeave, held_known, held_of_others}
+use Rattle.ph_facts.proofs.OrderLemmas.{order_with_all}
+use Rattle.ph_facts.proofs.LawLemmas.{is_of_amounts, laws_held}
+use Rattle.ph_facts.proofs.OriginLemmas.{has_begun_origin}
+use Rattle.ph_facts.proofs.UnderwayLemmas.{IsUnderway, underway_first, underway_told}
 use Rattle.ph_intents.specs.Attempts.{attempted, new_attempt, with_attempt}
 use Rattle.ph_intents.specs.Create.{created_with}
 use Rattle.ph_intents.specs.Keeps.{AddsSound, AreUtf8, IsReady, batch_after}
@@ -59,21 +61,19 @@ other_version rows batch object other account content differs =
 
 -- ---- batches of one payment intent
 
--- a batch that is under way may be entered, where the sums are right with it, it has nothing of disputes, and it leaves what
--- is held for every payment intent but one that is held
+-- a batch that is under way may be entered, where the rows keep the laws on amounts with it, and it leaves what is held for
+-- every payment intent but one that is held
 pub enters : (state : ViewState) (batch : BatchState) (object : ℕ) → IsSound state → IsUnderway state batch
-    → HaveSums (state.rows ++ batch.rows) → list_any is_of_dispute batch.rows ≡ false
+    → (AreHeld (state.rows ++ batch.rows) → KeepLaws (state.rows ++ batch.rows))
     → ((other : ℕ) → (other ≡ object → ⊥) → AllLeave state.rows other batch.rows) → IsHeldAt object (state.rows ++ batch.rows)
     → MayBeEntered state batch
-enters state batch object sound underway sums none leave held =
+enters state batch object sound underway keeps leave held =
     let continues = underway.continues in
     record {
       began = continues.began;
       at = continues.at;
       follow = continues.follow;
-      charges = sums;
-      held = held_of_others state batch.rows object sound.order (order_with_all state batch.rows sound.order continues.follow) sound.held held leave;
-      disputes = moves_stay state.rows batch.rows none sound.disputes;
+      laws = keeps (held_of_others state batch.rows object sound.order (order_with_all state batch.rows sound.order continues.follow) sound.laws.held held leave);
       told = underway.told;
     }
 
@@ -85,12 +85,11 @@ Waits state object intent =
 -- a batch with versions of a payment intent and attempts
 plain_enters : (state : ViewState) (batch : BatchState) (object : ℕ) (row : Row) (intent : Intent) → IsSound state
     → IsUnderway state batch → latest_of object (state.rows ++ batch.rows) ≡ Some row → row.item ≡ item.Intent intent
-    → ((charge : ℕ) → list_any (touches charge) batch.rows ≡ false) → list_any is_of_dispute batch.rows ≡ false
+    → list_any is_of_amounts batch.rows ≡ false
     → ((other : ℕ) → (other ≡ object → ⊥) → AllLeave state.rows other batch.rows)
     → Each (λ row. kind_of row.item ≡ kind.Charge → ⊥) batch.rows → Waits state object intent → MayBeEntered state batch
-plain_enters state batch object row intent sound underway latest is untouched none leave no_charge waits =
-    enters state batch object sound underway
-    (λ charge. sums_stay charge state.rows batch.rows (untouched charge) (sound.charges charge)) none leave
+plain_enters state batch object row intent sound underway latest is none leave no_charge waits =
+    enters state batch object sound underway (laws_held state.rows batch.rows none sound.laws) leave
     (held_known object (state.rows ++ batch.rows) row intent latest is
     (λ here. hold_stays state batch.rows object intent sound.order underway.continues.follow no_charge (waits here)))
 
@@ -105,7 +104,7 @@ pub version_enters : (state : ViewState) (entry account object : ℕ) (intent : 
 version_enters state entry account object intent ready underway waits =
     plain_enters state (with_version account object intent (batch_after state entry)) object
     (version_row state entry account object intent) intent ready.sound underway
-    (last_version state.rows (batch_after state entry) object account (item.Intent intent)) refl (λ charge. refl) refl
+    (last_version state.rows (batch_after state entry) object account (item.Intent intent)) refl refl
     (λ other differs. (λ same. differs (sym same), tt)) (λ is. absurd (cc), tt) waits
 
 -- and an event that tells of it
@@ -116,7 +115,7 @@ told_enters state entry account object intent sort ready underway subject waits 
     plain_enters state (with_told account object intent sort (batch_after state entry)) object
     (version_row state entry account object intent) intent ready.sound
     (underway_told state (batch_after state entry) object account (item.Intent intent) sort underway subject)
-    (last_version state.rows (batch_after state entry) object account (item.Intent intent)) refl (λ charge. refl) refl
+    (last_version state.rows (batch_after state entry) object account (item.Intent intent)) refl refl
     (λ other differs. (λ same. differs (sym same), tt)) (λ is. absurd (cc), tt) waits
 
 -- a version of a payment intent in the batch of an entry, of which this was announced
@@ -133,13 +132,16 @@ attempt_enters state entry account object intent how announced ready underway ea
     plain_enters state (with_attempt account object intent how before) object
     (version_row state entry account object intent) intent ready.sound
     (underway_first state before account begun ready.sound.order underway (let room = ready.room in omega arith)
-    (record { texts = refl; origins = tt; silent = λ event is. absurd (cc) }))
+    (record { texts = refl; within = tt; origins = (has_begun_origin _ version underway.continues.follow.0.begun, tt); silent = λ event is. absurd (cc) }))
     (other_version state.rows before object (last_place before + 1) account begun (λ same. omega arith)
-    ∙ last_version state.rows (batch_after state entry) object account (item.Intent intent)) refl (λ charge. refl) refl
+    ∙ last_version state.rows (batch_after state entry) object account (item.Intent intent)) refl refl
     (λ other differs. (λ same. differs (sym same), (tt, tt))) (λ is. absurd (cc), (λ is. absurd (cc), tt)) waits
   where
     before : BatchState
     before = with_told_version state entry account object intent announced
+
+    version : Row
+    version = version_row state entry account object intent
 
     begun : Item
     begun = item.Attempt (new_attempt object intent.amount intent.currency how before)
@@ -153,20 +155,20 @@ attempted_enters state entry account object intent how ready underway early wait
 
 -- the first version of a payment intent
 pub created_underway : (state : ViewState) (entry account : ℕ) (intent : Intent) → IsReady state
-    → AreUtf8 (texts_of (item.Intent intent))
+    → AreUtf8 (texts_of (item.Intent intent)) → HasOrigins (state.rows ++ []) (charge_named intent.latest_charge)
     → IsUnderway state (with_version account (last_place (batch_after state entry) + 1) intent (batch_after state entry))
-created_underway state entry account intent ready texts =
+created_underway state entry account intent ready texts named =
     underway_first state (batch_after state entry) account (item.Intent intent) ready.sound.order (begins state entry)
-    (let room = ready.room in omega arith) (record { texts = texts; origins = tt; silent = λ event is. absurd (cc) })
+    (let room = ready.room in omega arith) (record { texts = texts; within = tt; origins = named; silent = λ event is. absurd (cc) })
 
 -- a new payment intent, its attempt, and the event that tells of it
 pub created_enters : (state : ViewState) (entry account : ℕ) (intent : Intent) (how : Method) → IsReady state
-    → AreUtf8 (texts_of (item.Intent intent)) → Waits state (last_place (batch_after state entry) + 1) intent
-    → AddsSound state (created_with account intent how (batch_after state entry))
-created_enters state entry account intent how ready texts waits =
+    → AreUtf8 (texts_of (item.Intent intent)) → HasOrigins (state.rows ++ []) (charge_named intent.latest_charge)
+    → Waits state (last_place (batch_after state entry) + 1) intent → AddsSound state (created_with account intent how (batch_after state entry))
+created_enters state entry account intent how ready texts named waits =
     let batch = batch_after state entry in
     let object = last_place batch + 1 in
     attempt_enters state entry account object intent how (record { sort = event.IntentCreated; object = object } ∷ []) ready
     (underway_told state batch object account (item.Intent intent) event.IntentCreated
-    (created_underway state entry account intent ready texts) refl)
+    (created_underway state entry account intent ready texts named) refl)
     (omega arith) waits

@@ -1,28 +1,32 @@
 -- A payment intent that is found among sound rows, and what an operation on it may add.
 use Rattle.std.specs.Prelude.{option_and_then}
-use Rattle.std.proofs.Common.{◌≡◌, ℕ, ◌≤◌, List, Option, None, Some, length, refl, sym, ap, subst, arith}
+use Rattle.std.proofs.Common.{◌≡◌, ℕ, ◌≤◌, List, [], ◌++◌, Option, None, Some, length, refl, sym, ap, subst, arith}
 use Rattle.ph_base.specs.declared.acquirer.Method.{Method}
 use Rattle.ph_base.specs.declared.ids.Kind.TheVariants as kind
-use Rattle.ph_calls.specs.Outcomes.{Outcome}
+use Rattle.ph_facts.specs.Outcomes.{Outcome}
 use Rattle.ph_rows.specs.declared.rows.Row.{Row}
-use Rattle.ph_rows.specs.declared.charges.Charge.{Charge}
-use Rattle.ph_rows.specs.declared.event_kinds.EventKind.{EventKind}
-use Rattle.ph_rows.specs.declared.intents.Intent.{Intent}
-use Rattle.ph_rows.specs.declared.intents.IntentStatus.{IntentStatus}
-use Rattle.ph_rows.specs.declared.intents.IntentStatus.TheVariants as status
-use Rattle.ph_rows.specs.declared.items.Item.{Item}
-use Rattle.ph_rows.specs.declared.items.Item.TheVariants as item
-use Rattle.ph_rows.specs.Items.{intent_in}
-use Rattle.ph_rows.specs.Kinds.{kind_of}
+use Rattle.ph_items.specs.declared.charges.Charge.{Charge}
+use Rattle.ph_items.specs.declared.event_kinds.EventKind.{EventKind}
+use Rattle.ph_items.specs.declared.intents.Intent.{Intent}
+use Rattle.ph_items.specs.declared.intents.IntentStatus.{IntentStatus}
+use Rattle.ph_items.specs.declared.intents.IntentStatus.TheVariants as status
+use Rattle.ph_items.specs.declared.items.Item.{Item}
+use Rattle.ph_items.specs.declared.items.Item.TheVariants as item
+use Rattle.ph_items.specs.Items.{intent_in}
+use Rattle.ph_items.specs.Kinds.{kind_of}
 use Rattle.ph_rows.specs.Names.{owned_named}
 use Rattle.ph_rows.specs.Rows.{row_at, latest_of}
-use Rattle.ph_rows.specs.Sound.{IsHeldBy, IsSound, charge_of}
+use Rattle.ph_facts.specs.Held.{IsHeldBy, charge_of}
+use Rattle.ph_facts.specs.Origins.{HasOrigins, charge_named, origins_of}
+use Rattle.ph_facts.specs.Sound.{IsSound}
 use Rattle.ph_rows.specs.Views.{ViewState}
-use Rattle.ph_rows.specs.Weights.{texts_of}
-use Rattle.ph_rows.specs.Words.{subject_of}
-use Rattle.ph_rows.proofs.FoundLemmas.{owned_found}
-use Rattle.ph_rows.proofs.SoundLemmas.{row_at_within}
-use Rattle.ph_rows.proofs.UnderwayLemmas.{IsUnderway, underway_further}
+use Rattle.ph_items.specs.Weights.{texts_of}
+use Rattle.ph_items.specs.Words.{subject_of}
+use Rattle.ph_facts.proofs.FoundLemmas.{owned_found}
+use Rattle.ph_rows.proofs.RowLemmas.{row_at_within}
+use Rattle.ph_facts.proofs.OrderLemmas.{origins_stand}
+use Rattle.ph_facts.proofs.OriginLemmas.{have_begun-before}
+use Rattle.ph_facts.proofs.UnderwayLemmas.{IsUnderway, underway_further}
 use Rattle.ph_intents.specs.Attempts.{attempted}
 use Rattle.ph_intents.specs.Keeps.{AddsSound, AreUtf8, IsReady, batch_after}
 use Rattle.ph_intents.specs.Refusals.{made_of, made_of_row, made_at, if_allowed}
@@ -94,7 +98,7 @@ passes_on : (object : ℕ) (old new : Intent) (charge : Option Charge) → new.a
 passes_on object old new None less held = absurd held
 passes_on object old new (Some charge) less held =
     let enough : old.amount_capturable ≤ charge.amount = held.amount in
-    record { intent = held.intent; amount = omega arith; nothing = held.nothing }
+    record { sort = held.sort; amount = omega arith; nothing = held.nothing }
 
 -- so it is held as the version before it was
 pub found_waits : (state : ViewState) (account : ℕ) (row : Row) (old new : Intent) → IsSound state → IsFound state account row old
@@ -102,16 +106,30 @@ pub found_waits : (state : ViewState) (account : ℕ) (row : Row) (old new : Int
 found_waits state account row old new sound found passes here =
     subst (λ (charge : Option ℕ). IsHeldBy row.object new (option_and_then (charge_of state.rows) charge)) (sym passes.charge)
     (passes_on row.object old new (option_and_then (charge_of state.rows) old.latest_charge) passes.amount
-    (sound.held row.object row old found.latest found.is (passes.waits here)))
+    (sound.laws.held row.object row old found.latest found.is (passes.waits here)))
+
+-- its latest charge has begun, where a version has the one before it
+found_origins : (state : ViewState) (account : ℕ) (row : Row) (old new : Intent) → IsSound state → IsFound state account row old
+    → new.latest_charge ≡ old.latest_charge → HasOrigins (state.rows ++ []) (origins_of (item.Intent new))
+found_origins state account row old new sound found same =
+    have_begun-before state.rows [] (origins_of (item.Intent new))
+    (subst (λ (charge : Option ℕ). HasOrigins state.rows (charge_named charge)) (sym same)
+    (origins_stand state row (item.Intent old) sound.order found.stands found.is))
 
 -- a batch is under way with a further version of a payment intent that is found
 pub found_underway : (state : ViewState) (entry account : ℕ) (row : Row) (old new : Intent) → IsReady state
-    → IsFound state account row old → AreUtf8 (texts_of (item.Intent new))
+    → IsFound state account row old → AreUtf8 (texts_of (item.Intent new)) → new.latest_charge ≡ old.latest_charge
     → IsUnderway state (with_version account row.object new (batch_after state entry))
-found_underway state entry account row old new ready found texts =
+found_underway state entry account row old new ready found texts same =
     subst (λ (owner : ℕ). IsUnderway state (with_version owner row.object new (batch_after state entry))) found.owner
     (underway_further state (batch_after state entry) row (item.Intent new) ready.sound.order (begins state entry) found.stands
-    (let room = ready.room in omega arith) (record { texts = texts; origins = tt; silent = λ event is. absurd (cc) })
+    (let room = ready.room in omega arith)
+    (record {
+      texts = texts;
+      within = tt;
+      origins = found_origins state account row old new ready.sound found same;
+      silent = λ event is. absurd (cc);
+    })
     (record { kind = ap kind_of (sym found.is); changes = refl }))
 
 -- it may be entered with an event that tells of it
@@ -120,7 +138,7 @@ pub found_told : (state : ViewState) (entry account : ℕ) (row : Row) (old new 
     → AddsSound state (adds_told account row.object new sort (batch_after state entry))
 found_told state entry account row old new sort ready found subject texts passes =
     told_enters state entry account row.object new sort ready
-    (found_underway state entry account row old new ready found texts) subject
+    (found_underway state entry account row old new ready found texts passes.charge) subject
     (found_waits state account row old new ready.sound found passes)
 
 -- and with an attempt
@@ -129,6 +147,6 @@ pub found_attempted : (state : ViewState) (entry account : ℕ) (row : Row) (old
     → AddsSound state (attempted account row.object new how (batch_after state entry))
 found_attempted state entry account row old new how ready found texts passes =
     attempted_enters state entry account row.object new how ready
-    (found_underway state entry account row old new ready found texts)
+    (found_underway state entry account row old new ready found texts passes.charge)
     (found_within state account row old ready.sound found)
     (found_waits state account row old new ready.sound found passes)

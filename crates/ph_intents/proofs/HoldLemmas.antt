@@ -6,17 +6,19 @@ use Rattle.std.proofs.lemmas.Bool.{ne_eqb}
 use Rattle.std.proofs.lemmas.List.{append_assoc}
 use Rattle.ph_base.specs.declared.ids.Kind.TheVariants as kind
 use Rattle.ph_rows.specs.declared.rows.Row.{Row}
-use Rattle.ph_rows.specs.declared.charges.Charge.{Charge}
-use Rattle.ph_rows.specs.declared.items.Item.{Item}
-use Rattle.ph_rows.specs.declared.items.Item.TheVariants as item
-use Rattle.ph_rows.specs.declared.intents.Intent.{Intent}
-use Rattle.ph_rows.specs.Items.{charge_in}
-use Rattle.ph_rows.specs.Kinds.{kind_of}
+use Rattle.ph_items.specs.declared.charges.Charge.{Charge}
+use Rattle.ph_items.specs.declared.items.Item.{Item}
+use Rattle.ph_items.specs.declared.items.Item.TheVariants as item
+use Rattle.ph_items.specs.declared.intents.Intent.{Intent}
+use Rattle.ph_items.specs.Charges.{charge_kind}
+use Rattle.ph_items.specs.Items.{charge_in}
+use Rattle.ph_items.specs.Kinds.{kind_of}
 use Rattle.ph_rows.specs.Rows.{row_at, latest_of}
-use Rattle.ph_rows.specs.Sound.{AllMayFollow, HasBegun, IsHeldBy, IsInOrder, charge_of, with_next}
+use Rattle.ph_facts.specs.Order.{AllMayFollow, HasBegun, IsInOrder, with_next}
+use Rattle.ph_facts.specs.Held.{IsHeldBy, charge_of}
 use Rattle.ph_rows.specs.Views.{ViewState}
-use Rattle.ph_rows.proofs.HeldLemmas.{is_version, latest_of-apart}
-use Rattle.ph_rows.proofs.SoundLemmas.{latest_of_order, row_at-before}
+use Rattle.ph_rows.proofs.RowLemmas.{is_version, latest_of-apart, row_at-before}
+use Rattle.ph_facts.proofs.OrderLemmas.{latest_of_order}
 
 -- something holds of each row
 abbrev pub Each : (Row → Type 0) → List Row → Type 0
@@ -43,7 +45,7 @@ begun_before rows more row h = at (row_at row.object rows) refl h
     at (Some first) e h = subst (λ (o : Option Row). HasBegun o row) (sym (row_at-before row.object rows more first e)) h
 
 -- each row that may follow has its object's first version among all
-each_begun : (state : ViewState) (rows : List Row) → AllMayFollow state rows
+pub each_begun : (state : ViewState) (rows : List Row) → AllMayFollow state rows
     → Each (λ row. HasBegun (row_at row.object (state.rows ++ rows)) row) rows
 each_begun state [] follow = tt
 each_begun state (row ∷ rows) follow =
@@ -93,17 +95,17 @@ charge_row rows number charge e = at (latest_of number rows) refl e
     at None l e = absurd (cc)
     at (Some row) l e = in_item row l row.item refl e
 
--- the present version of a charge stays with rows of which none is a version of a charge
+-- the present version of a card charge stays with rows of which none is a version of a charge
 pub charge_stays : (state : ViewState) (more : List Row) (number : ℕ) (charge : Charge) → IsInOrder state → AllMayFollow state more
-    → Each (λ row. kind_of row.item ≡ kind.Charge → ⊥) more → charge_of state.rows number ≡ Some charge
-    → charge_of (state.rows ++ more) number ≡ Some charge
-charge_stays state more number charge order follow none found =
+    → Each (λ row. kind_of row.item ≡ kind.Charge → ⊥) more → charge_kind charge.sort ≡ kind.Charge
+    → charge_of state.rows number ≡ Some charge → charge_of (state.rows ++ more) number ≡ Some charge
+charge_stays state more number charge order follow none card found =
     let last = charge_row state.rows number charge found in
     let begun = latest_begun state number last.row order last.latest in
     let still = begun_before state.rows more last.row begun.0 in
     let apart = each_both (λ new. HasBegun (row_at new.object (state.rows ++ more)) new) (λ new. kind_of new.item ≡ kind.Charge → ⊥)
     (λ new. new.object ≡ number → ⊥)
-    (λ new h no_charge same. no_charge (one_kind (state.rows ++ more) new last.row h still (same ∙ sym begun.1) ∙ ap kind_of last.is))
+    (λ new h no_charge same. no_charge (one_kind (state.rows ++ more) new last.row h still (same ∙ sym begun.1) ∙ ap kind_of last.is ∙ card))
     more (each_begun state more follow) none in
     ap (option_and_then (λ (r : Row). charge_in r.item)) (latest_of-apart number state.rows more (none_version number more apart)) ∙ found
 
@@ -118,7 +120,7 @@ hold_stays state more object intent order follow none = by intent.latest_charge
         → IsHeldBy object intent (charge_of (state.rows ++ more) number)
     of_charge number None e h = absurd h
     of_charge number (Some charge) e h =
-        subst (IsHeldBy object intent) (sym (charge_stays state more number charge order follow none e)) h
+        subst (IsHeldBy object intent) (sym (charge_stays state more number charge order follow none (ap charge_kind h.sort) e)) h
 
     by : (latest : Option ℕ) → IsHeldBy object intent (option_and_then (charge_of state.rows) latest)
         → IsHeldBy object intent (option_and_then (charge_of (state.rows ++ more)) latest)

@@ -3,23 +3,23 @@ use Rattle.std.proofs.Common.{◌≡◌, ℕ, ◌+◌, cond, nat_lt, List, [], O
 use Rattle.std.proofs.lemmas.Bool.{cond_both}
 use Rattle.std.specs.Option.{option_or}
 use Rattle.ph_base.specs.declared.acquirer.Method.TheVariants as method
-use Rattle.ph_calls.specs.Outcomes.{Refuses, Adds}
+use Rattle.ph_facts.specs.Outcomes.{Refuses, Adds}
 use Rattle.ph_calls.specs.declared.call.CreateIntent.{CreateIntent}
 use Rattle.ph_calls.specs.declared.call.UpdateIntent.{UpdateIntent}
 use Rattle.ph_errors.specs.Table.{error_of, AmountTooSmall}
 use Rattle.ph_money.specs.Currencies.{terms_of}
 use Rattle.ph_rows.specs.declared.rows.Row.{Row}
-use Rattle.ph_rows.specs.declared.event_kinds.EventKind.TheVariants as event
-use Rattle.ph_rows.specs.declared.intents.Intent.{Intent}
-use Rattle.ph_rows.specs.declared.intents.IntentStatus.{IntentStatus}
-use Rattle.ph_rows.specs.declared.intents.IntentStatus.TheVariants as status
-use Rattle.ph_rows.specs.declared.intents.PaymentError.{PaymentError}
-use Rattle.ph_rows.specs.declared.intents.PaymentError.TheVariants as payment_error
-use Rattle.ph_rows.specs.declared.items.Item.TheVariants as item
-use Rattle.ph_rows.specs.declared.payment_methods.PaymentMethod.{PaymentMethod}
+use Rattle.ph_items.specs.declared.event_kinds.EventKind.TheVariants as event
+use Rattle.ph_items.specs.declared.intents.Intent.{Intent}
+use Rattle.ph_items.specs.declared.intents.IntentStatus.{IntentStatus}
+use Rattle.ph_items.specs.declared.intents.IntentStatus.TheVariants as status
+use Rattle.ph_items.specs.declared.intents.PaymentError.{PaymentError}
+use Rattle.ph_items.specs.declared.intents.PaymentError.TheVariants as payment_error
+use Rattle.ph_items.specs.declared.items.Item.TheVariants as item
+use Rattle.ph_items.specs.declared.payment_methods.PaymentMethod.{PaymentMethod}
 use Rattle.ph_rows.specs.Batches.{last_place}
-use Rattle.ph_rows.proofs.UnderwayLemmas.{IsUnderway}
-use Rattle.ph_rows.specs.Weights.{with_text, method_text, metadata_texts, texts_of}
+use Rattle.ph_facts.proofs.UnderwayLemmas.{IsUnderway}
+use Rattle.ph_items.specs.Weights.{with_text, method_text, metadata_texts, texts_of}
 use Rattle.ph_intents.specs.Attempts.{attempted}
 use Rattle.ph_intents.specs.Authenticate.{authenticate_of, authenticate_outcome, authenticated_intent, fail_of, fail_authentication_outcome, failed_intent}
 use Rattle.ph_intents.specs.Cancel.{cancel_of, cancel_outcome, canceled_intent}
@@ -69,7 +69,7 @@ create_keeps state entry account call ready texts =
     let intent = new_intent call (first_status call.payment_method) in
     let kept = new_texts call (first_status call.payment_method) texts in
     told_enters state entry account (last_place (batch_after state entry) + 1) intent event.IntentCreated ready
-    (created_underway state entry account intent ready kept) refl
+    (created_underway state entry account intent ready kept tt) refl
     (λ waits. absurd (never_waits call.payment_method waits))
 
 pub create_confirmed_keeps : KeepsSound create_texts create_confirmed_outcome
@@ -80,7 +80,7 @@ create_confirmed_keeps state entry account call ready texts = at call.payment_me
     at None = tt
     at (Some method) =
         created_enters state entry account (new_intent call status.Processing) method.method ready
-        (new_texts call status.Processing texts) (λ waits. absurd (cc))
+        (new_texts call status.Processing texts) tt (λ waits. absurd (cc))
 
 -- ---- the calls that change a payment intent, its texts as they were
 
@@ -191,7 +191,7 @@ update_keeps state entry account call ready texts =
     keeps_allowed state (λ status. update_with account batch row.object (updated status))
     (next_status intent.status (step_of call))
     (λ status to. with_updated row.object (updated status)
-    (found_underway state entry account row intent (updated status) ready found (updated_texts call intent status texts kept))
+    (found_underway state entry account row intent (updated status) ready found (updated_texts call intent status texts kept) refl)
     (found_waits state account row intent (updated status) ready.sound found
     (record { charge = refl; amount = omega arith; waits = waited_before intent.status (step_of call) status to }))))
   where

@@ -7,39 +7,45 @@ use Rattle.ph_base.specs.declared.acquirer.Ruling.{Ruling}
 use Rattle.ph_base.specs.declared.acquirer.Ruling.TheVariants as ruling
 use Rattle.ph_base.specs.declared.ids.Kind.TheVariants as kind
 use Rattle.ph_charges.specs.Approvals.{charge_number, decline_of, with_approved}
-use Rattle.ph_charges.specs.Charges.{new_charge, with_captured}
+use Rattle.ph_charges.specs.Charges.{new_charge, next_capture, with_captured}
+use Rattle.ph_charges.specs.Charges as charges
 use Rattle.ph_charges.proofs.EntryLemmas.{approval_underway, decline_underway}
 use Rattle.ph_charges.proofs.SumLemmas.{approval_keeps, decline_keeps}
 use Rattle.ph_rows.specs.declared.rows.Row.{Row}
-use Rattle.ph_rows.specs.declared.attempts.Attempt.{Attempt}
-use Rattle.ph_rows.specs.declared.charges.Charge.{Charge}
-use Rattle.ph_rows.specs.declared.charges.ChargeStatus.TheVariants as charge_status
-use Rattle.ph_rows.specs.declared.event_kinds.EventKind.{EventKind}
-use Rattle.ph_rows.specs.declared.event_kinds.EventKind.TheVariants as event
-use Rattle.ph_rows.specs.declared.intents.CaptureMethod.{CaptureMethod}
-use Rattle.ph_rows.specs.declared.intents.CaptureMethod.TheVariants as capture_method
-use Rattle.ph_rows.specs.declared.intents.Intent.{Intent}
-use Rattle.ph_rows.specs.declared.intents.IntentStatus.TheVariants as status
-use Rattle.ph_rows.specs.declared.intents.PaymentError.TheVariants as payment_error
-use Rattle.ph_rows.specs.declared.items.Item.{Item}
-use Rattle.ph_rows.specs.declared.items.Item.TheVariants as item
+use Rattle.ph_items.specs.declared.attempts.Attempt.{Attempt}
+use Rattle.ph_items.specs.declared.charges.Charge.{Charge}
+use Rattle.ph_items.specs.declared.charges.ChargeStatus.TheVariants as charge_status
+use Rattle.ph_items.specs.declared.event_kinds.EventKind.{EventKind}
+use Rattle.ph_items.specs.declared.event_kinds.EventKind.TheVariants as event
+use Rattle.ph_items.specs.declared.intents.CaptureMethod.{CaptureMethod}
+use Rattle.ph_items.specs.declared.intents.CaptureMethod.TheVariants as capture_method
+use Rattle.ph_items.specs.declared.intents.Intent.{Intent}
+use Rattle.ph_items.specs.declared.intents.IntentStatus.TheVariants as status
+use Rattle.ph_items.specs.declared.intents.PaymentError.TheVariants as payment_error
+use Rattle.ph_items.specs.declared.items.Item.{Item}
+use Rattle.ph_items.specs.declared.items.Item.TheVariants as item
 use Rattle.ph_rows.specs.Batches.{BatchState, next_row, with_row, with_announced}
-use Rattle.ph_rows.specs.Entering.{MayBeEntered}
-use Rattle.ph_rows.specs.Items.{attempt_in, charge_in, intent_in}
-use Rattle.ph_rows.specs.Kinds.{kind_of}
+use Rattle.ph_facts.specs.Entering.{MayBeEntered}
+use Rattle.ph_items.specs.Items.{attempt_in, charge_in, intent_in}
+use Rattle.ph_items.specs.Kinds.{kind_of}
 use Rattle.ph_rows.specs.Rows.{row_at, latest_of}
-use Rattle.ph_rows.specs.Sound.{AreHeld, HaveMoves, HaveSums, IsHeldBy, IsSound, charge_of}
+use Rattle.ph_facts.specs.Held.{AreHeld, IsHeldBy, charge_of}
+use Rattle.ph_facts.specs.Origins.{HasOrigins, IsOrigin, charge_named, origins_of}
+use Rattle.ph_facts.specs.Sound.{IsSound, KeepLaws}
 use Rattle.ph_rows.specs.Views.{ViewState}
-use Rattle.ph_rows.specs.Weights.{texts_of}
-use Rattle.ph_rows.specs.Words.{subject_of}
-use Rattle.ph_rows.proofs.ChargeLemmas.{neither_part, sums_stay, touches}
-use Rattle.ph_rows.proofs.HeldLemmas.{AllLeave, IsApart, Leaves, held_known, later_is_loose}
-use Rattle.ph_rows.proofs.MoveLemmas.{is_of_dispute}
-use Rattle.ph_rows.proofs.SoundLemmas.{latest_of_sound, row_at_within}
-use Rattle.ph_rows.proofs.UnderwayLemmas.{IsUnderway, underway_further, underway_told}
+use Rattle.ph_items.specs.Weights.{texts_of}
+use Rattle.ph_items.specs.Words.{subject_of}
+use Rattle.ph_rows.proofs.RowLemmas.{row_at_within}
+use Rattle.ph_facts.proofs.HeldLemmas.{AllLeave, IsApart, Leaves, held_known, later_is_loose}
+use Rattle.ph_facts.proofs.SoundLemmas.{latest_of_sound}
+use Rattle.ph_facts.proofs.LawLemmas.{is_of_amounts, laws_held}
+use Rattle.ph_facts.proofs.OrderLemmas.{origin_stands, origins_stand, texts_stand}
+use Rattle.ph_facts.proofs.OriginLemmas.{has_begun_origin, has_begun_still, have_begun-before}
+use Rattle.ph_facts.proofs.UnderwayLemmas.{IsUnderway, underway_further, underway_told}
 use Rattle.ph_intents.specs.Keeps.{AddsSound, AreUtf8, IsReady, SettleKeepsSound, batch_after}
 use Rattle.ph_intents.specs.Settle.{settled_attempt, approved_intent, approved_event, settled_intent, settle_both, settle_intent, settle_attempt, settle_row, with_latest_charge, with_settled}
 use Rattle.ph_intents.specs.Versions.{with_told}
+use Rattle.ph_intents.proofs.HoldLemmas.{each_begun}
 use Rattle.ph_intents.proofs.EnterLemmas.{begins, enters, last_version, other_version}
 use Rattle.ph_intents.proofs.KeepsLemmas.{failed_texts}
 
@@ -55,11 +61,10 @@ record IsIntent (state : ViewState) (row : Row) (intent : Intent) : Type 0 where
 
 -- ---- the rows that a ruling adds in front of the payment intent's version
 
--- a batch is under way with them, they are few, have nothing of disputes, and leave what is held for other payment intents
+-- a batch is under way with them, they are few, and leave what is held for other payment intents
 record IsRuled (state : ViewState) (object : ℕ) (batch : BatchState) : Type 0 where
   pub underway : IsUnderway state batch
   pub few : length batch.rows ≤ 3
-  pub disputes : list_any is_of_dispute batch.rows ≡ false
   pub leave : (other : ℕ) → (other ≡ object → ⊥) → AllLeave state.rows other batch.rows
 
 -- rows that leave what is held, and one more
@@ -73,19 +78,20 @@ leave_push rows object (row ∷ more) last leave h = (leave.0, leave_push rows o
 -- a version of the payment intent behind them, and the event that tells of it
 ruled_enters : (state : ViewState) (row : Row) (old new : Intent) (sort : EventKind) (batch : BatchState) → IsReady state
     → IsIntent state row old → IsRuled state row.object batch → AreUtf8 (texts_of (item.Intent new)) → kind.Intent ≡ subject_of sort
-    → HaveSums (state.rows ++ (batch.rows ++ next_row batch row.object row.account (item.Intent new) ∷ []))
+    → HasOrigins (state.rows ++ batch.rows) (charge_named new.latest_charge)
+    → (AreHeld (state.rows ++ (batch.rows ++ next_row batch row.object row.account (item.Intent new) ∷ [])) → KeepLaws (state.rows ++ (batch.rows ++ next_row batch row.object row.account (item.Intent new) ∷ [])))
     → (new.status ≡ status.RequiresCapture → IsHeldBy row.object new (option_and_then (charge_of (state.rows ++ (batch.rows ++ next_row batch row.object row.account (item.Intent new) ∷ []))) new.latest_charge))
     → MayBeEntered state (with_told row.account row.object new sort batch)
-ruled_enters state row old new sort batch ready there ruled texts subject kept held =
+ruled_enters state row old new sort batch ready there ruled texts subject named kept held =
     let version = next_row batch row.object row.account (item.Intent new) in
     let room = ready.room in
     let few : length batch.rows ≤ 3 = ruled.few in
     enters state (with_told row.account row.object new sort batch) row.object ready.sound
     (underway_told state batch row.object row.account (item.Intent new) sort
     (underway_further state batch row (item.Intent new) ready.sound.order ruled.underway there.stands (omega arith)
-    (record { texts = texts; origins = tt; silent = λ event is. absurd (cc) })
+    (record { texts = texts; within = tt; origins = named; silent = λ event is. absurd (cc) })
     (record { kind = ap kind_of (sym there.is); changes = refl })) subject)
-    kept (neither_part is_of_dispute batch.rows (version ∷ []) ruled.disputes refl)
+    kept
     (λ other differs. leave_push state.rows other batch.rows version (ruled.leave other differs) (λ same. differs (sym same)))
     (held_known row.object (state.rows ++ (batch.rows ++ version ∷ [])) version new
     (last_version state.rows batch row.object row.account (item.Intent new)) refl held)
@@ -96,10 +102,14 @@ settled_ruled : (state : ViewState) (entry : ℕ) (how : Ruling) (row : Row) (at
 settled_ruled state entry how row attempt object ready stood = record {
   underway = underway_further state (batch_after state entry) row (item.Attempt (settled_attempt how attempt)) ready.sound.order
       (begins state entry) stood.stands (let room = ready.room in omega arith)
-      (record { texts = refl; origins = tt; silent = λ event is. absurd (cc) })
+      (record {
+        texts = refl;
+        within = tt;
+        origins = have_begun-before state.rows [] (origins_of (item.Attempt attempt)) (origins_stand state row (item.Attempt attempt) ready.sound.order stood.stands stood.is);
+        silent = λ event is. absurd (cc);
+      })
       (record { kind = ap kind_of (sym stood.is); changes = refl });
   few = omega arith;
-  disputes = refl;
   leave = λ other differs. (tt, tt);
 }
 
@@ -131,9 +141,20 @@ settled_enters state entry how row intent_row attempt intent ready stood there =
     later = omega arith
 
     texts : AreUtf8 (texts_of (item.Intent intent))
-    texts = subst (λ (content : Item). AreUtf8 (texts_of content)) there.is (ready.sound.order.texts intent_row.place intent_row there.stands)
+    texts = texts_stand state intent_row (item.Intent intent) ready.sound.order there.stands there.is
 
-    room : length state.rows + 16 < 10 ^ 16
+    -- the payment intent has begun, and so has its latest charge
+    paid : (batch : BatchState) → IsOrigin (row_at object (state.rows ++ batch.rows)) (record { kind = kind.Intent; number = object })
+    paid batch =
+        has_begun_still state.rows batch.rows (record { kind = kind.Intent; number = object })
+        (origin_stands state intent_row (item.Intent intent) ready.sound.order there.stands there.is)
+
+    before_it : (batch : BatchState) → HasOrigins (state.rows ++ batch.rows) (charge_named intent.latest_charge)
+    before_it batch =
+        have_begun-before state.rows batch.rows (origins_of (item.Intent intent))
+        (origins_stand state intent_row (item.Intent intent) ready.sound.order there.stands there.is)
+
+    room : length state.rows + 64 < 10 ^ 16
     room = ready.room
 
     apart : object ≡ number → ⊥
@@ -149,25 +170,34 @@ settled_enters state entry how row intent_row attempt intent ready stood there =
     captured : BatchState
     captured = with_announced (with_captured account number charge charge.amount (before ruling.Approved)) event.ChargeSucceeded number
 
+    captured_charge : Charge
+    captured_charge = charges.captured_charge charge.amount (next_capture charge (before ruling.Approved)) charge
+
+    -- the row of the new charge
+    charge_row : Charge → Row
+    charge_row charge = next_row (before ruling.Approved) number account (item.Charge charge)
+
     held : BatchState
     held = with_announced (with_row (before ruling.Approved) number account (item.Charge charge)) event.ChargeSucceeded number
 
     -- the new charge holds no other payment intent
     loose : (other : ℕ) → IsApart state.rows other number
-    loose other = later_is_loose state number ready.sound.order ready.sound.held later other
+    loose other = later_is_loose state number ready.sound.order ready.sound.laws.held later other
 
     -- captured at once
     whole : (new : Intent) → status.Succeeded ≡ new.status → AreUtf8 (texts_of (item.Intent new)) → IsUnderway state captured
-        → ((behind : List Row) → ((charge : ℕ) → list_any (touches charge) behind ≡ false) → HaveSums (state.rows ++ (captured.rows ++ behind)))
-        → MayBeEntered state (with_told account object new event.IntentSucceeded captured)
-    whole new succeeded new_texts underway sums =
+        → ((behind : List Row) → list_any is_of_amounts behind ≡ false → AreHeld (state.rows ++ (captured.rows ++ behind)) → KeepLaws (state.rows ++ (captured.rows ++ behind)))
+        → new.latest_charge ≡ Some number → MayBeEntered state (with_told account object new event.IntentSucceeded captured)
+    whole new succeeded new_texts underway keeps latest =
         ruled_enters state intent_row intent new event.IntentSucceeded captured ready there
         (record {
           underway = underway;
           few = omega arith;
-          disputes = refl;
           leave = λ other differs. (tt, (loose other, (tt, tt)));
-        }) new_texts refl (sums (version new captured ∷ []) (λ other. refl))
+        }) new_texts refl
+        (subst (λ (charge : Option ℕ). HasOrigins (state.rows ++ captured.rows) (charge_named charge)) (sym latest)
+        (has_begun_origin _ (charge_row captured_charge) (each_begun state captured.rows underway.continues.follow).1.0, tt))
+        (keeps (version new captured ∷ []) refl)
         (λ here. absurd (let clash : status.Succeeded ≡ status.RequiresCapture = succeeded ∙ here in cc))
 
     approved_is : CaptureMethod → BatchState
@@ -176,22 +206,23 @@ settled_enters state entry how row intent_row attempt intent ready stood there =
     underway_by : (capture : CaptureMethod) → intent.capture_method ≡ capture → IsUnderway state (approved_is capture)
     underway_by capture e =
         subst (λ (c : CaptureMethod). IsUnderway state (approved_is c)) e
-        (approval_underway state (before ruling.Approved) account object intent ready.sound.order (begun ruling.Approved).underway (omega arith) texts)
+        (approval_underway state (before ruling.Approved) account object intent ready.sound.order (begun ruling.Approved).underway (omega arith) texts (paid (before ruling.Approved)))
 
-    sums_by : (capture : CaptureMethod) → intent.capture_method ≡ capture → (behind : List Row)
-        → ((charge : ℕ) → list_any (touches charge) behind ≡ false) → HaveSums (state.rows ++ ((approved_is capture).rows ++ behind))
-    sums_by capture e behind untouched =
-        subst (λ (c : CaptureMethod). HaveSums (state.rows ++ ((approved_is c).rows ++ behind))) e
-        (approval_keeps state account object intent (before ruling.Approved) behind ready.sound refl (λ other. refl) untouched)
+    keeps_by : (capture : CaptureMethod) → intent.capture_method ≡ capture → (behind : List Row)
+        → list_any is_of_amounts behind ≡ false → AreHeld (state.rows ++ ((approved_is capture).rows ++ behind))
+        → KeepLaws (state.rows ++ ((approved_is capture).rows ++ behind))
+    keeps_by capture e behind untouched =
+        subst (λ (c : CaptureMethod). AreHeld (state.rows ++ ((approved_is c).rows ++ behind)) → KeepLaws (state.rows ++ ((approved_is c).rows ++ behind))) e
+        (approval_keeps state account object intent (before ruling.Approved) behind ready.sound refl refl untouched)
 
     approved : (capture : CaptureMethod) → intent.capture_method ≡ capture
         → MayBeEntered state (with_told account object (with_latest_charge (Some number) (approved_intent capture intent)) (approved_event capture) (approved_is capture))
     approved capture_method.Automatic e =
         whole (with_latest_charge (Some number) (approved_intent capture_method.Automatic intent)) refl texts
-        (underway_by capture_method.Automatic e) (sums_by capture_method.Automatic e)
+        (underway_by capture_method.Automatic e) (keeps_by capture_method.Automatic e) refl
     approved capture_method.AutomaticAsync e =
         whole (with_latest_charge (Some number) (approved_intent capture_method.AutomaticAsync intent)) refl texts
-        (underway_by capture_method.AutomaticAsync e) (sums_by capture_method.AutomaticAsync e)
+        (underway_by capture_method.AutomaticAsync e) (keeps_by capture_method.AutomaticAsync e) refl
     approved capture_method.Manual e =
         let new = with_latest_charge (Some number) (approved_intent capture_method.Manual intent) in
         let known = ap (option_and_then (λ (r : Row). charge_in r.item))
@@ -201,10 +232,11 @@ settled_enters state entry how row intent_row attempt intent ready stood there =
         (record {
           underway = underway_by capture_method.Manual e;
           few = omega arith;
-          disputes = refl;
           leave = λ other differs. (tt, (loose other, tt));
-        }) texts refl (sums_by capture_method.Manual e (version new held ∷ []) (λ other. refl))
-        (λ here. subst (IsHeldBy object new) (sym known) (record { intent = refl; amount = omega arith; nothing = refl }))
+        }) texts refl
+        (has_begun_origin _ (charge_row charge) (each_begun state held.rows (underway_by capture_method.Manual e).continues.follow).1.0, tt)
+        (keeps_by capture_method.Manual e (version new held ∷ []) refl)
+        (λ here. subst (IsHeldBy object new) (sym known) (record { sort = refl; amount = omega arith; nothing = refl }))
 
     ruled : (how : Ruling)
         → AddsSound state (settle_both how row attempt intent_row (batch_after state entry) (Some intent))
@@ -212,21 +244,23 @@ settled_enters state entry how row intent_row attempt intent ready stood there =
     ruled (ruling.Declined decline) =
         let batch = decline_of account object intent (before (ruling.Declined decline)) in
         let new = settled_intent (ruling.Declined decline) (Some number) intent in
+        let underway = decline_underway state (before (ruling.Declined decline)) account object intent ready.sound.order
+        (begun (ruling.Declined decline)).underway (omega arith) texts (paid (before (ruling.Declined decline))) in
+        let failed = next_row (before (ruling.Declined decline)) number account (item.Charge (new_charge object intent charge_status.Failed)) in
         ruled_enters state intent_row intent new event.IntentPaymentFailed batch ready there
         (record {
-          underway = decline_underway state (before (ruling.Declined decline)) account object intent ready.sound.order
-              (begun (ruling.Declined decline)).underway (omega arith) texts;
+          underway = underway;
           few = omega arith;
-          disputes = refl;
           leave = λ other differs. (tt, (loose other, tt));
         }) (failed_texts intent (payment_error.Declined decline) status.RequiresPaymentMethod texts) refl
-        (decline_keeps state account object intent (before (ruling.Declined decline)) (version new batch ∷ []) ready.sound refl (λ other. refl) (λ other. refl))
+        (has_begun_origin _ failed (each_begun state batch.rows underway.continues.follow).1.0, tt)
+        (decline_keeps state account object intent (before (ruling.Declined decline)) (version new batch ∷ []) ready.sound refl refl refl)
         (λ here. absurd (cc))
     ruled ruling.Challenge =
         let batch = before ruling.Challenge in
         let new = settled_intent ruling.Challenge intent.latest_charge intent in
-        ruled_enters state intent_row intent new event.IntentRequiresAction batch ready there (begun ruling.Challenge) texts refl
-        (λ other. sums_stay other state.rows (batch.rows ++ version new batch ∷ []) refl (ready.sound.charges other))
+        ruled_enters state intent_row intent new event.IntentRequiresAction batch ready there (begun ruling.Challenge) texts refl (before_it batch)
+        (laws_held state.rows (batch.rows ++ version new batch ∷ []) refl ready.sound.laws)
         (λ here. absurd (cc))
 
 -- nothing may be entered
@@ -235,9 +269,7 @@ nothing_enters state entry sound = record {
   began = refl;
   at = refl;
   follow = tt;
-  charges = subst HaveSums (sym (append-nil state.rows)) sound.charges;
-  held = subst AreHeld (sym (append-nil state.rows)) sound.held;
-  disputes = subst HaveMoves (sym (append-nil state.rows)) sound.disputes;
+  laws = subst KeepLaws (sym (append-nil state.rows)) sound.laws;
   told = tt;
 }
 

@@ -3,9 +3,9 @@ use Rattle.std.proofs.Common.{◌≡◌, ℕ, zero, suc, Bool, true, false, List
 use Rattle.std.specs.Prelude.{get_or}
 use Rattle.std.specs.List.{list_any}
 use Rattle.std.proofs.lemmas.Bool.{false≢true}
-use Rattle.ph_rows.specs.declared.intents.IntentStatus.{IntentStatus}
-use Rattle.ph_rows.specs.declared.intents.IntentStatus.TheVariants as status
-use Rattle.ph_rows.proofs.ChargeLemmas.{first_fails, second_fails}
+use Rattle.ph_items.specs.declared.intents.IntentStatus.{IntentStatus}
+use Rattle.ph_items.specs.declared.intents.IntentStatus.TheVariants as status
+use Rattle.ph_rows.proofs.RowLemmas.{first_fails, second_fails}
 use Rattle.ph_intents.specs.Statuses.{table, column_number, next_status}
 use Rattle.ph_intents.specs.declared.statuses.Step.{Step}
 use Rattle.ph_intents.specs.declared.statuses.Step.TheVariants as step

@@ -7,11 +7,11 @@ use Rattle.ph_kinds.specs.declared.metadata.Meta.{Meta}
 use Rattle.ph_kinds.specs.declared.metadata.Meta.TheVariants as meta
 use Rattle.ph_kinds.specs.Kept.{named_texts, pair_texts}
 use Rattle.ph_kinds.proofs.KeptLemmas.{and, first_text, pair_put}
-use Rattle.ph_rows.specs.declared.metadata_pairs.MetadataPair.{MetadataPair}
-use Rattle.ph_rows.specs.declared.payment_methods.PaymentMethod.{PaymentMethod}
-use Rattle.ph_rows.specs.Metadata.{without_pair}
-use Rattle.ph_rows.specs.Weights.{with_text, method_text, metadata_texts}
-use Rattle.ph_calls.specs.Keeps.{AreUtf8}
+use Rattle.ph_items.specs.declared.metadata_pairs.MetadataPair.{MetadataPair}
+use Rattle.ph_items.specs.declared.payment_methods.PaymentMethod.{PaymentMethod}
+use Rattle.ph_items.specs.Metadata.{without_pair}
+use Rattle.ph_items.specs.Weights.{with_text, method_text, metadata_texts}
+use Rattle.ph_items.specs.Weights.{AreUtf8}
 use Rattle.ph_intents.specs.Metadata.{with_change, with_changes, merged_metadata}
 
 -- a text in front that may be there, and the others

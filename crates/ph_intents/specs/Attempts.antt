@@ -1,16 +1,16 @@
 -- Attempts: the one that a call begins, and the one that a batch begins.
 use Rattle.std.specs.Prelude.{ℕ, ◌+◌, Option, None, Some}
 use Rattle.ph_base.specs.declared.acquirer.Method.{Method}
-use Rattle.ph_calls.specs.Outcomes.{Outcome, Adds}
+use Rattle.ph_facts.specs.Outcomes.{Outcome, Adds}
 use Rattle.ph_money.specs.declared.currencies.Currency.{Currency}
 use Rattle.ph_rows.specs.declared.rows.Row.{Row}
-use Rattle.ph_rows.specs.declared.attempts.Attempt.{Attempt}
-use Rattle.ph_rows.specs.declared.attempts.AttemptState.TheVariants as state
-use Rattle.ph_rows.specs.declared.intents.Intent.{Intent}
-use Rattle.ph_rows.specs.declared.orders.Order.{Order}
-use Rattle.ph_rows.specs.declared.items.Item.TheVariants as item
+use Rattle.ph_items.specs.declared.attempts.Attempt.{Attempt}
+use Rattle.ph_items.specs.declared.attempts.AttemptState.TheVariants as state
+use Rattle.ph_items.specs.declared.intents.Intent.{Intent}
+use Rattle.ph_items.specs.declared.orders.Order.{Order}
+use Rattle.ph_items.specs.declared.items.Item.TheVariants as item
 use Rattle.ph_rows.specs.Batches.{BatchState, last_place, with_row}
-use Rattle.ph_rows.specs.Items.{attempt_in}
+use Rattle.ph_items.specs.Items.{attempt_in}
 use Rattle.ph_rows.specs.Rows.{latest_of}
 use Rattle.ph_intents.specs.Versions.{with_version}
 

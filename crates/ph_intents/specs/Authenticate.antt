@@ -2,13 +2,13 @@
 use Rattle.std.specs.Prelude.{ℕ, List, None, Some}
 use Rattle.ph_base.specs.declared.acquirer.Method.TheVariants as method
 use Rattle.ph_calls.specs.declared.call.Authenticate.{Authenticate}
-use Rattle.ph_calls.specs.Outcomes.{Outcome}
+use Rattle.ph_facts.specs.Outcomes.{Outcome}
 use Rattle.ph_rows.specs.declared.rows.Row.{Row}
-use Rattle.ph_rows.specs.declared.intents.Intent.{Intent}
-use Rattle.ph_rows.specs.declared.intents.IntentStatus.{IntentStatus}
-use Rattle.ph_rows.specs.declared.intents.PaymentError.{PaymentError}
-use Rattle.ph_rows.specs.declared.intents.PaymentError.TheVariants as payment_error
-use Rattle.ph_rows.specs.declared.event_kinds.EventKind.TheVariants as event
+use Rattle.ph_items.specs.declared.intents.Intent.{Intent}
+use Rattle.ph_items.specs.declared.intents.IntentStatus.{IntentStatus}
+use Rattle.ph_items.specs.declared.intents.PaymentError.{PaymentError}
+use Rattle.ph_items.specs.declared.intents.PaymentError.TheVariants as payment_error
+use Rattle.ph_items.specs.declared.event_kinds.EventKind.TheVariants as event
 use Rattle.ph_rows.specs.Batches.{BatchState}
 use Rattle.ph_intents.specs.declared.statuses.Step.TheVariants as step
 use Rattle.ph_intents.specs.Attempts.{attempted}

@@ -1,6 +1,6 @@
 -- The calls that begin an attempt: a confirm, a create that is confirmed at once, an authentication that succeeded.
 use Rattle.std.specs.Prelude.{ℕ, List}
-use Rattle.ph_calls.specs.Outcomes.{Outcome}
+use Rattle.ph_facts.specs.Outcomes.{Outcome}
 use Rattle.ph_rows.specs.declared.rows.Row.{Row}
 use Rattle.ph_rows.specs.Batches.{BatchState}
 use Rattle.ph_intents.specs.declared.begins.Begin.{Begin}

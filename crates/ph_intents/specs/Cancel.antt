@@ -1,12 +1,12 @@
 -- The cancel.
 use Rattle.std.specs.Prelude.{ℕ, List, Option}
 use Rattle.ph_calls.specs.declared.call.CancelIntent.{CancelIntent}
-use Rattle.ph_calls.specs.Outcomes.{Outcome}
+use Rattle.ph_facts.specs.Outcomes.{Outcome}
 use Rattle.ph_rows.specs.declared.rows.Row.{Row}
-use Rattle.ph_rows.specs.declared.intents.Intent.{Intent}
-use Rattle.ph_rows.specs.declared.intents.IntentStatus.{IntentStatus}
-use Rattle.ph_rows.specs.declared.intents.CancellationReason.{CancellationReason}
-use Rattle.ph_rows.specs.declared.event_kinds.EventKind.TheVariants as event
+use Rattle.ph_items.specs.declared.intents.Intent.{Intent}
+use Rattle.ph_items.specs.declared.intents.IntentStatus.{IntentStatus}
+use Rattle.ph_items.specs.declared.intents.CancellationReason.{CancellationReason}
+use Rattle.ph_items.specs.declared.event_kinds.EventKind.TheVariants as event
 use Rattle.ph_rows.specs.Batches.{BatchState}
 use Rattle.ph_intents.specs.declared.statuses.Step.TheVariants as step
 use Rattle.ph_intents.specs.Refusals.{made_at, if_allowed}

@@ -6,9 +6,10 @@ use Rattle.ph_calls.specs.declared.call.CreateIntent.{CreateIntent}
 use Rattle.ph_calls.specs.declared.call.UpdateIntent.{UpdateIntent}
 use Rattle.ph_kinds.specs.Kept.{named_texts}
 use Rattle.ph_rows.specs.Views.{ViewState}
-use Rattle.ph_rows.specs.Weights.{with_text, method_text}
+use Rattle.ph_items.specs.Weights.{with_text, method_text}
 use Rattle.ph_intents.specs.Settle.{settle_outcome}
-pub use Rattle.ph_calls.specs.Keeps.{AddsSound, AreUtf8, IsReady, KeepsSound, batch_after, no_texts}
+pub use Rattle.ph_items.specs.Weights.{AreUtf8}
+pub use Rattle.ph_facts.specs.Keeps.{AddsSound, IsReady, KeepsSound, batch_after, no_texts}
 
 -- the texts of each call that its rows keep
 abbrev pub create_texts : CreateIntent → List (List ℕ)

@@ -3,8 +3,8 @@ use Rattle.std.specs.Prelude.{ℕ, List, [], ◌∷◌, Option, None, Some}
 use Rattle.std.specs.List.{fold}
 use Rattle.ph_kinds.specs.declared.metadata.Meta.{Meta}
 use Rattle.ph_kinds.specs.declared.metadata.Meta.TheVariants as meta
-use Rattle.ph_rows.specs.declared.metadata_pairs.MetadataPair.{MetadataPair}
-use Rattle.ph_rows.specs.Metadata.{with_pair, without_pair}
+use Rattle.ph_items.specs.declared.metadata_pairs.MetadataPair.{MetadataPair}
+use Rattle.ph_items.specs.Metadata.{with_pair, without_pair}
 
 -- metadata with one key set to a text, or without it where the text is empty
 abbrev pub with_change : List MetadataPair → List ℕ → List ℕ → List MetadataPair

@@ -1,14 +1,14 @@
 -- The steps that the operations share, each with its refusal.
 use Rattle.std.specs.Prelude.{◌≡◌, ℕ, List, Option, None, Some, codes}
 use Rattle.ph_base.specs.declared.ids.Kind.TheVariants as kind
-use Rattle.ph_calls.specs.Outcomes.{Outcome, Refuses}
+use Rattle.ph_facts.specs.Outcomes.{Outcome, Refuses}
 use Rattle.ph_errors.specs.Table.{Problem, error_of, NoSuchObject, UnexpectedState, InvalidValue}
 use Rattle.ph_errors.specs.declared.refusal.Refusal.{Refusal}
 use Rattle.ph_errors.specs.declared.refusal.Refusal.TheVariants as refusal
 use Rattle.ph_rows.specs.declared.rows.Row.{Row}
-use Rattle.ph_rows.specs.declared.intents.Intent.{Intent}
-use Rattle.ph_rows.specs.declared.intents.IntentStatus.{IntentStatus}
-use Rattle.ph_rows.specs.Items.{intent_in}
+use Rattle.ph_items.specs.declared.intents.Intent.{Intent}
+use Rattle.ph_items.specs.declared.intents.IntentStatus.{IntentStatus}
+use Rattle.ph_items.specs.Items.{intent_in}
 use Rattle.ph_rows.specs.Names.{owned_named}
 
 -- the path names no payment intent of the account

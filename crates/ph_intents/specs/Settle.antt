@@ -2,22 +2,22 @@
 use Rattle.std.specs.Prelude.{ℕ, List, Option, None, Some}
 use Rattle.ph_base.specs.declared.acquirer.Ruling.{Ruling}
 use Rattle.ph_base.specs.declared.acquirer.Ruling.TheVariants as ruling
-use Rattle.ph_calls.specs.Outcomes.{Outcome, Adds}
+use Rattle.ph_facts.specs.Outcomes.{Outcome, Adds}
 use Rattle.ph_charges.specs.Approvals.{approval_of, charge_number, decline_of}
 use Rattle.ph_rows.specs.declared.rows.Row.{Row}
-use Rattle.ph_rows.specs.declared.attempts.Attempt.{Attempt}
-use Rattle.ph_rows.specs.declared.attempts.AttemptState.{AttemptState}
-use Rattle.ph_rows.specs.declared.attempts.AttemptState.TheVariants as state
-use Rattle.ph_rows.specs.declared.intents.Intent.{Intent}
-use Rattle.ph_rows.specs.declared.intents.IntentStatus.TheVariants as status
-use Rattle.ph_rows.specs.declared.intents.CaptureMethod.{CaptureMethod}
-use Rattle.ph_rows.specs.declared.intents.CaptureMethod.TheVariants as capture_method
-use Rattle.ph_rows.specs.declared.intents.PaymentError.TheVariants as payment_error
-use Rattle.ph_rows.specs.declared.items.Item.TheVariants as item
-use Rattle.ph_rows.specs.declared.event_kinds.EventKind.{EventKind}
-use Rattle.ph_rows.specs.declared.event_kinds.EventKind.TheVariants as event
+use Rattle.ph_items.specs.declared.attempts.Attempt.{Attempt}
+use Rattle.ph_items.specs.declared.attempts.AttemptState.{AttemptState}
+use Rattle.ph_items.specs.declared.attempts.AttemptState.TheVariants as state
+use Rattle.ph_items.specs.declared.intents.Intent.{Intent}
+use Rattle.ph_items.specs.declared.intents.IntentStatus.TheVariants as status
+use Rattle.ph_items.specs.declared.intents.CaptureMethod.{CaptureMethod}
+use Rattle.ph_items.specs.declared.intents.CaptureMethod.TheVariants as capture_method
+use Rattle.ph_items.specs.declared.intents.PaymentError.TheVariants as payment_error
+use Rattle.ph_items.specs.declared.items.Item.TheVariants as item
+use Rattle.ph_items.specs.declared.event_kinds.EventKind.{EventKind}
+use Rattle.ph_items.specs.declared.event_kinds.EventKind.TheVariants as event
 use Rattle.ph_rows.specs.Batches.{BatchState, with_row}
-use Rattle.ph_rows.specs.Items.{attempt_in, intent_in}
+use Rattle.ph_items.specs.Items.{attempt_in, intent_in}
 use Rattle.ph_rows.specs.Rows.{latest_of}
 use Rattle.ph_intents.specs.Authenticate.{failed_intent}
 use Rattle.ph_intents.specs.Capture.{received_intent}

@@ -1,7 +1,7 @@
 -- The table of statuses: what each step makes of a payment intent in each status.
 use Rattle.std.specs.Prelude.{ℕ, List, [], ◌∷◌, Option, None, Some, get_or}
-use Rattle.ph_rows.specs.declared.intents.IntentStatus.{IntentStatus}
-use Rattle.ph_rows.specs.declared.intents.IntentStatus.TheVariants as status
+use Rattle.ph_items.specs.declared.intents.IntentStatus.{IntentStatus}
+use Rattle.ph_items.specs.declared.intents.IntentStatus.TheVariants as status
 use Rattle.ph_intents.specs.declared.statuses.Step.{Step}
 use Rattle.ph_intents.specs.declared.statuses.Step.TheVariants as step
 

@@ -2,12 +2,12 @@
 use Rattle.std.specs.Prelude.{ℕ, Bool, true, false, ◌||◌, nat_lt, if◌then◌else◌, List, length, unwrap_or, codes}
 use Rattle.std.specs.Option.{is_some, option_or}
 use Rattle.ph_calls.specs.declared.call.UpdateIntent.{UpdateIntent}
-use Rattle.ph_calls.specs.Outcomes.{Outcome, Refuses, Adds}
+use Rattle.ph_facts.specs.Outcomes.{Outcome, Refuses, Adds}
 use Rattle.ph_errors.specs.Table.{error_of, AmountTooSmall}
 use Rattle.ph_money.specs.Currencies.{terms_of}
 use Rattle.ph_rows.specs.declared.rows.Row.{Row}
-use Rattle.ph_rows.specs.declared.intents.Intent.{Intent}
-use Rattle.ph_rows.specs.declared.intents.IntentStatus.{IntentStatus}
+use Rattle.ph_items.specs.declared.intents.Intent.{Intent}
+use Rattle.ph_items.specs.declared.intents.IntentStatus.{IntentStatus}
 use Rattle.ph_rows.specs.Batches.{BatchState}
 use Rattle.ph_intents.specs.declared.statuses.Step.{Step}
 use Rattle.ph_intents.specs.declared.statuses.Step.TheVariants as step

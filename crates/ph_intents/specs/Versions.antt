@@ -1,9 +1,9 @@
 -- Versions of a payment intent in a batch.
 use Rattle.std.specs.Prelude.{ℕ}
-use Rattle.ph_calls.specs.Outcomes.{Outcome, Adds}
-use Rattle.ph_rows.specs.declared.intents.Intent.{Intent}
-use Rattle.ph_rows.specs.declared.items.Item.TheVariants as item
-use Rattle.ph_rows.specs.declared.event_kinds.EventKind.{EventKind}
+use Rattle.ph_facts.specs.Outcomes.{Outcome, Adds}
+use Rattle.ph_items.specs.declared.intents.Intent.{Intent}
+use Rattle.ph_items.specs.declared.items.Item.TheVariants as item
+use Rattle.ph_items.specs.declared.event_kinds.EventKind.{EventKind}
 use Rattle.ph_rows.specs.Batches.{BatchState, with_row, with_announced}
 
 -- the batch with a version of a payment intent, under an account

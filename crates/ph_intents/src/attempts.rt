@@ -1,13 +1,14 @@
 //! Attempts: the one that a call begins, and the one that a batch begins.
 ghost use Rattle.std.specs.Prelude.{◌≡◌, OnOk};
-ghost use Rattle.ph_calls.specs.Outcomes.{Gives};
+ghost use Rattle.ph_facts.specs.Outcomes.{Gives};
 ghost use Rattle.ph_intents.specs.Attempts.{attempted, begun, with_new_attempt};
 
 use crate::versions::add_version;
 use ph_base::{Method, NoMemory};
 use ph_errors::Refusal;
+use ph_items::{Attempt, AttemptState, Intent, Item, Order};
 use ph_money::{Amount, Currency};
-use ph_rows::{Attempt, AttemptState, Batch, Intent, Item, Order};
+use ph_rows::Batch;
 
 /// Adds a new attempt to have a payment intent paid, an amount by a method: live, under its own number as the
 /// reference, begun by the batch's entry.

@@ -1,6 +1,6 @@
 //! The authentication of a customer.
 ghost use Rattle.std.specs.Prelude.{◌≡◌, IfOk};
-ghost use Rattle.ph_calls.specs.Outcomes.{Gives};
+ghost use Rattle.ph_facts.specs.Outcomes.{Gives};
 ghost use Rattle.ph_intents.specs.Authenticate.{authenticate_of, authenticate_outcome, authenticated_intent, fail_authentication_outcome, fail_of, failed_intent};
 
 use crate::attempts::add_attempted;
@@ -10,7 +10,8 @@ use crate::versions::tell_version;
 use ph_base::{Kind, Method, NoMemory};
 use ph_calls::Authenticate;
 use ph_errors::Refusal;
-use ph_rows::{Batch, EventKind, Intent, IntentStatus, PaymentError, View, owned_named};
+use ph_items::{EventKind, Intent, IntentStatus, PaymentError};
+use ph_rows::{Batch, View, owned_named};
 use std::alloc::Global;
 
 // A payment intent whose customer has authenticated: its payment method stays.

@@ -1,5 +1,5 @@
 //! The calls that begin an attempt.
-ghost use Rattle.ph_calls.specs.Outcomes.{Gives};
+ghost use Rattle.ph_facts.specs.Outcomes.{Gives};
 ghost use Rattle.ph_intents.specs.Begin.{begin_outcome};
 
 use crate::authentication::authenticate;

@@ -1,6 +1,6 @@
 //! The cancel.
 ghost use Rattle.std.specs.Prelude.{◌≡◌, IfOk};
-ghost use Rattle.ph_calls.specs.Outcomes.{Gives};
+ghost use Rattle.ph_facts.specs.Outcomes.{Gives};
 ghost use Rattle.ph_intents.specs.Cancel.{cancel_of, cancel_outcome, canceled_intent};
 
 use crate::refusals::{no_such_intent, unexpected_state};
@@ -9,8 +9,9 @@ use crate::versions::tell_version;
 use ph_base::{Kind, NoMemory};
 use ph_calls::CancelIntent;
 use ph_errors::Refusal;
+use ph_items::{CancellationReason, EventKind, Intent, IntentStatus};
 use ph_money::Amount;
-use ph_rows::{Batch, CancellationReason, EventKind, Intent, IntentStatus, View, owned_named};
+use ph_rows::{Batch, View, owned_named};
 use std::alloc::Global;
 
 // A payment intent that is canceled, for a reason or none.

@@ -1,6 +1,6 @@
 //! The capture.
 ghost use Rattle.std.specs.Prelude.{◌≡◌, ◌==◌, ◌||◌, nat_lt, IfOk, OnOk};
-ghost use Rattle.ph_calls.specs.Outcomes.{Gives};
+ghost use Rattle.ph_facts.specs.Outcomes.{Gives};
 ghost use Rattle.ph_intents.specs.Capture.{capture_amount, capture_of, capture_outcome, received_intent, with_charge_captured};
 
 use crate::refusals::{invalid_value, no_such_intent, unexpected_state};
@@ -9,8 +9,9 @@ use crate::versions::tell_version;
 use ph_base::{Kind, NoMemory};
 use ph_calls::CaptureIntent;
 use ph_errors::Refusal;
+use ph_items::{EventKind, Intent, IntentStatus};
 use ph_money::Amount;
-use ph_rows::{Batch, EventKind, Intent, IntentStatus, View, owned_named};
+use ph_rows::{Batch, View, owned_named};
 use std::alloc::Global;
 
 /// A payment intent of which so much is received; the rest can't be captured any more.

@@ -1,7 +1,7 @@
 //! The confirm.
 ghost use Rattle.std.specs.Prelude.{◌≡◌, IfOk};
 ghost use Rattle.std.specs.Option.{option_copied};
-ghost use Rattle.ph_calls.specs.Outcomes.{Gives};
+ghost use Rattle.ph_facts.specs.Outcomes.{Gives};
 ghost use Rattle.ph_intents.specs.Confirm.{confirm_of, confirm_outcome, confirm_with, paying_intent};
 
 use crate::attempts::add_attempted;
@@ -10,7 +10,8 @@ use crate::statuses::{Step, next_status};
 use ph_base::{Kind, NoMemory};
 use ph_calls::ConfirmIntent;
 use ph_errors::Refusal;
-use ph_rows::{Batch, Intent, IntentStatus, PaymentMethod, View, owned_named};
+use ph_items::{Intent, IntentStatus, PaymentMethod};
+use ph_rows::{Batch, View, owned_named};
 use std::alloc::Global;
 
 // A payment intent that a payment method is to pay: an earlier failure is forgotten.

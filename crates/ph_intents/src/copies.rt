@@ -3,7 +3,7 @@ ghost use Rattle.std.specs.Prelude.{◌≡◌, IfOk};
 ghost use Rattle.std.specs.Option.{option_copied, option_or};
 
 use ph_base::{Bytes, NoMemory};
-use ph_rows::{PaymentMethod, copy_method, copy_text};
+use ph_items::{PaymentMethod, copy_method, copy_text};
 use std::alloc::Global;
 
 /// A copy of the payment method that is named, or else of the one that is kept.

@@ -1,6 +1,6 @@
 //! The create.
 ghost use Rattle.std.specs.Prelude.{◌≡◌, IfOk};
-ghost use Rattle.ph_calls.specs.Outcomes.{Gives};
+ghost use Rattle.ph_facts.specs.Outcomes.{Gives};
 ghost use Rattle.ph_intents.specs.Create.{create_confirmed_outcome, create_outcome, created_with, new_intent};
 
 use crate::attempts::add_attempt;
@@ -8,11 +8,10 @@ use crate::refusals::parameter_missing;
 use ph_base::{Method, NoMemory};
 use ph_calls::CreateIntent;
 use ph_errors::Refusal;
+use ph_items::{CaptureMethod, EventKind, Intent, IntentStatus, Item, copy_method, copy_text};
 use ph_kinds::first_metadata;
 use ph_money::Amount;
-use ph_rows::{
-    Batch, CaptureMethod, EventKind, Intent, IntentStatus, Item, View, copy_method, copy_text,
-};
+use ph_rows::{Batch, View};
 use std::alloc::Global;
 
 /// The first version of a payment intent, in a status: each field from the call, or its default.

@@ -4,8 +4,8 @@ ghost use Rattle.ph_intents.specs.Metadata.{merged_metadata, with_change, with_c
 ghost use Rattle.std.specs.Option.{option_copied};
 
 use ph_base::{Bytes, NoMemory};
+use ph_items::Metadata;
 use ph_kinds::Meta;
-use ph_rows::Metadata;
 use std::alloc::Global;
 
 // Sets a key to a text, or takes it away where the text is empty.

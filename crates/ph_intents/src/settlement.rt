@@ -1,6 +1,6 @@
 //! What a ruling of the acquirer makes of an attempt and its payment intent.
 ghost use Rattle.std.specs.Prelude.{◌≡◌, IfOk, OnOk};
-ghost use Rattle.ph_calls.specs.Outcomes.{Adds};
+ghost use Rattle.ph_facts.specs.Outcomes.{Adds};
 ghost use Rattle.ph_intents.specs.Settle.{approved_event, approved_intent, charge_after, held_intent, ruled_intent, settle_outcome, settled_attempt, settled_event, settled_intent, settled_state, with_charge, with_ruling};
 
 use crate::authentication::failed_intent;
@@ -8,10 +8,10 @@ use crate::capturing::received_intent;
 use crate::versions::tell_version;
 use ph_base::{NoMemory, Ruling};
 use ph_charges::{approve, decline};
-use ph_rows::{
-    Attempt, AttemptState, Batch, CaptureMethod, EventKind, Intent, IntentStatus, Item,
-    PaymentError, View,
+use ph_items::{
+    Attempt, AttemptState, CaptureMethod, EventKind, Intent, IntentStatus, Item, PaymentError,
 };
+use ph_rows::{Batch, View};
 use std::alloc::Global;
 
 // Where a ruling leaves its attempt.

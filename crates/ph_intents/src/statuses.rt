@@ -2,7 +2,7 @@
 ghost use Rattle.std.specs.Prelude.{◌≡◌, ◌<◌};
 ghost use Rattle.ph_intents.specs.Statuses.{column_number, line_number, next_status};
 
-use ph_rows::IntentStatus;
+use ph_items::IntentStatus;
 
 /// What a call or the customer does to a payment intent: a column of the table of statuses.
 #[derive(Clone, Copy, Debug, PartialEq, Eq)]

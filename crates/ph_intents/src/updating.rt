@@ -1,6 +1,6 @@
 //! The update.
 ghost use Rattle.std.specs.Prelude.{◌≡◌, IfOk};
-ghost use Rattle.ph_calls.specs.Outcomes.{Gives};
+ghost use Rattle.ph_facts.specs.Outcomes.{Gives};
 ghost use Rattle.ph_intents.specs.Update.{step_by, step_of, update_of, update_outcome, update_with, updated_intent};
 
 use crate::copies::{copy_method_or, copy_text_or};
@@ -11,7 +11,8 @@ use crate::versions::add_version;
 use ph_base::{Kind, NoMemory};
 use ph_calls::UpdateIntent;
 use ph_errors::Refusal;
-use ph_rows::{Batch, Intent, IntentStatus, View, owned_named};
+use ph_items::{Intent, IntentStatus};
+use ph_rows::{Batch, View, owned_named};
 use std::alloc::Global;
 
 // The greatest number of keys.

@@ -3,7 +3,8 @@ ghost use Rattle.std.specs.Prelude.{◌≡◌, OnOk};
 ghost use Rattle.ph_intents.specs.Versions.{with_told, with_version};
 
 use ph_base::NoMemory;
-use ph_rows::{Batch, EventKind, Intent, Item};
+use ph_items::{EventKind, Intent, Item};
+use ph_rows::Batch;
 
 /// Adds a further version of a payment intent.
 pub fn add_version(

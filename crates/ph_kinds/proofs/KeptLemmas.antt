@@ -8,9 +8,9 @@ use Rattle.std.specs.declared.cmp.Ordering.TheVariants.{Less, Equal, Greater}
 use Rattle.ph_kinds.specs.declared.metadata.Meta.{Meta}
 use Rattle.ph_kinds.specs.declared.metadata.Meta.TheVariants as meta
 use Rattle.ph_kinds.specs.Kept.{with_key, with_keys, first_metadata, named_texts, pair_texts}
-use Rattle.ph_rows.specs.declared.metadata_pairs.MetadataPair.{MetadataPair}
-use Rattle.ph_rows.specs.Metadata.{name_cmp, placed_pair, with_pair}
-use Rattle.ph_rows.specs.Weights.{metadata_texts}
+use Rattle.ph_items.specs.declared.metadata_pairs.MetadataPair.{MetadataPair}
+use Rattle.ph_items.specs.Metadata.{name_cmp, placed_pair, with_pair}
+use Rattle.ph_items.specs.Weights.{metadata_texts}
 
 -- the texts are UTF-8
 abbrev AreUtf8 : List (List ℕ) → Type 0

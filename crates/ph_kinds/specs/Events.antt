@@ -2,9 +2,9 @@
 use Rattle.std.specs.Prelude.{ℕ, ◌==◌, ◌&&◌, ◌||◌, not, if◌then◌else◌, Bool, List, [], ◌∷◌, map, length, Option, Some, None, is_some, find, Result, Ok, Err, codes, bytes_eq}
 use Rattle.std.specs.List.{list_all}
 use Rattle.ph_form.specs.declared.leaf.Leaf.{Leaf}
-use Rattle.ph_rows.specs.declared.event_kinds.EventKind.{EventKind}
-use Rattle.ph_rows.specs.declared.event_kinds.EventKind.TheVariants as event
-use Rattle.ph_rows.specs.Words.{event_text}
+use Rattle.ph_items.specs.declared.event_kinds.EventKind.{EventKind}
+use Rattle.ph_items.specs.declared.event_kinds.EventKind.TheVariants as event
+use Rattle.ph_items.specs.Words.{event_text}
 use Rattle.ph_kinds.specs.declared.flaw.Flaw.{Flaw}
 use Rattle.ph_kinds.specs.declared.flaw.Flaw.TheVariants.{InvalidValue}
 

@@ -6,7 +6,7 @@ use Rattle.ph_form.specs.declared.leaf.Leaf.{Leaf}
 use Rattle.ph_form.specs.Readers.{text_at, entries_at}
 use Rattle.ph_kinds.specs.declared.flaw.Flaw.{Flaw}
 use Rattle.ph_kinds.specs.declared.metadata.Meta.{Meta}
-use Rattle.ph_rows.specs.declared.payment_methods.PaymentMethod.{PaymentMethod}
+use Rattle.ph_items.specs.declared.payment_methods.PaymentMethod.{PaymentMethod}
 use Rattle.ph_kinds.specs.Events.{events_in}
 use Rattle.ph_kinds.specs.Metadata.{cleared_in, metadata_in}
 use Rattle.ph_kinds.specs.Methods.{method_in}

@@ -3,17 +3,17 @@ use Rattle.std.specs.Prelude.{ℕ, Bool, true, false, if◌then◌else◌, List,
 use Rattle.std.specs.Str.{str_eq_ignore_ascii_case}
 use Rattle.ph_money.specs.declared.currencies.Currency.{Currency}
 use Rattle.ph_money.specs.Currencies.{currency_of}
-use Rattle.ph_rows.specs.Words.{cancellation_reason_text, capture_method_text, refund_reason_text}
+use Rattle.ph_items.specs.Words.{cancellation_reason_text, capture_method_text, refund_reason_text}
 use Rattle.ph_kinds.specs.declared.authentication.Authentication.{Authentication}
 use Rattle.ph_kinds.specs.declared.authentication.Authentication.TheVariants.{Succeeded, Failed}
 use Rattle.ph_kinds.specs.declared.flaw.Flaw.{Flaw}
 use Rattle.ph_kinds.specs.declared.flaw.Flaw.TheVariants.{InvalidValue}
-use Rattle.ph_rows.specs.declared.intents.CancellationReason.{CancellationReason}
-use Rattle.ph_rows.specs.declared.intents.CancellationReason.TheVariants.{Duplicate, Fraudulent, RequestedByCustomer, Abandoned}
-use Rattle.ph_rows.specs.declared.intents.CaptureMethod.{CaptureMethod}
-use Rattle.ph_rows.specs.declared.intents.CaptureMethod.TheVariants.{Automatic, AutomaticAsync, Manual}
-use Rattle.ph_rows.specs.declared.refunds.RefundReason.{RefundReason}
-use Rattle.ph_rows.specs.declared.refunds.RefundReason.TheVariants as refund_reason
+use Rattle.ph_items.specs.declared.intents.CancellationReason.{CancellationReason}
+use Rattle.ph_items.specs.declared.intents.CancellationReason.TheVariants.{Duplicate, Fraudulent, RequestedByCustomer, Abandoned}
+use Rattle.ph_items.specs.declared.intents.CaptureMethod.{CaptureMethod}
+use Rattle.ph_items.specs.declared.intents.CaptureMethod.TheVariants.{Automatic, AutomaticAsync, Manual}
+use Rattle.ph_items.specs.declared.refunds.RefundReason.{RefundReason}
+use Rattle.ph_items.specs.declared.refunds.RefundReason.TheVariants as refund_reason
 
 -- a currency: its code, ASCII case ignored
 abbrev pub currency_in : List ℕ → Result Currency Flaw

@@ -5,7 +5,7 @@ ghost use Rattle.ph_kinds.specs.Events.{are_events, event_kind_of, is_event};
 use crate::lists::Texts;
 use ph_base::NoMemory;
 use ph_form::Leaf;
-use ph_rows::EventKind;
+use ph_items::EventKind;
 use std::alloc::Global;
 
 const EVENT_KINDS: [EventKind; 16] = [

@@ -19,8 +19,8 @@ use crate::words::{
 use ph_address::{Address, read_address};
 use ph_base::{Bytes, NoMemory};
 use ph_form::Form;
+use ph_items::{CancellationReason, CaptureMethod, PaymentMethod, RefundReason};
 use ph_money::{Amount, Currency};
-use ph_rows::{CancellationReason, CaptureMethod, PaymentMethod, RefundReason};
 use std::alloc::Global;
 
 /// The amount under a name.

@@ -5,7 +5,7 @@ ghost use Rattle.ph_kinds.specs.Kept.{first_metadata, with_keys};
 
 use crate::metadata::Meta;
 use ph_base::{Bytes, NoMemory};
-use ph_rows::Metadata;
+use ph_items::Metadata;
 use std::alloc::Global;
 
 // Sets keys to their texts, one after another. Where memory is wanting, some may be set.

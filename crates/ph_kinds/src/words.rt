@@ -4,8 +4,8 @@ ghost use Rattle.ph_kinds.specs.Words.{authentication_in, cancellation_reason_in
 
 use crate::authentication::Authentication;
 use crate::flaw::Flaw;
+use ph_items::{CancellationReason, CaptureMethod, RefundReason};
 use ph_money::Currency;
-use ph_rows::{CancellationReason, CaptureMethod, RefundReason};
 
 const CAPTURE_METHODS: [CaptureMethod; 3] = [
     CaptureMethod::Automatic,

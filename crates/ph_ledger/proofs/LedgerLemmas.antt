@@ -6,11 +6,12 @@ use Rattle.std.proofs.lemmas.Int.{ints}
 use Rattle.std.proofs.lemmas.List.{append-nil, append_assoc}
 use Rattle.ph_money.specs.declared.currencies.Currency.{Currency}
 use Rattle.ph_rows.specs.declared.rows.Row.{Row}
-use Rattle.ph_rows.specs.declared.items.Item.{Item}
-use Rattle.ph_rows.specs.declared.items.Item.TheVariants as item
-use Rattle.ph_rows.specs.declared.movements.Movement.{Movement}
-use Rattle.ph_rows.specs.Balances.{movement_of, currency_number, net_of, counts, balance_of}
-use Rattle.ph_rows.specs.Items.{txn_in}
+use Rattle.ph_items.specs.declared.items.Item.{Item}
+use Rattle.ph_items.specs.declared.items.Item.TheVariants as item
+use Rattle.ph_items.specs.declared.movements.Movement.{Movement}
+use Rattle.ph_items.specs.Movements.{movement_of, currency_number, counts}
+use Rattle.ph_rows.specs.Balances.{net_of, balance_of}
+use Rattle.ph_items.specs.Items.{txn_in}
 use Rattle.ph_rows.specs.Views.{ViewState}
 use Rattle.ph_rows.proofs.BalanceLemmas.{balance_of-cons}
 use Rattle.ph_ledger.specs.Steps.{Step, Posts, Advances, after, posted_by, moment_after, no_ledger, is_txn}

@@ -2,7 +2,7 @@
 use Rattle.std.specs.Prelude.{ℕ, Bool, List, [], ◌∷◌, ◌++◌, Option, None, Some, is_some}
 use Rattle.std.specs.List.{fold, filter_map}
 use Rattle.ph_rows.specs.declared.rows.Row.{Row}
-use Rattle.ph_rows.specs.Items.{txn_in}
+use Rattle.ph_items.specs.Items.{txn_in}
 use Rattle.ph_rows.specs.Views.{ListState, ViewState}
 
 -- a transaction is posted, or the ledger goes on to a moment

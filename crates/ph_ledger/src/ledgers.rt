@@ -2,12 +2,13 @@
 ghost use Rattle.std.specs.Prelude.{◌≡◌, ◌+◌, ◌≤◌, ◌<◌, ◌++◌, ◌∷◌, [], length, IsSome, OnOk, OnErr};
 ghost use Rattle.std.specs.List.{filter};
 ghost use Rattle.ph_rows.specs.Balances.{available_of, pending_of};
-ghost use Rattle.ph_rows.specs.Items.{txn_in};
+ghost use Rattle.ph_items.specs.Items.{txn_in};
 ghost use Rattle.ph_ledger.specs.Steps.{Posts, Advances, after, is_txn, no_ledger, shown};
 
 use ph_base::NoMemory;
+use ph_items::Item;
 use ph_money::Currency;
-use ph_rows::{Item, ListView, Row, View};
+use ph_rows::{ListView, Row, View};
 use std::alloc::Global;
 use std::marker::Model;
 

@@ -1,51 +1,58 @@
 -- The rows of a refund may be entered.
-use Rattle.std.specs.Prelude.{option_and_then}
-use Rattle.std.proofs.Common.{◌≡◌, ℕ, ◌+◌, ◌^◌, ◌≤◌, ◌<◌, true, [], ◌∷◌, ◌++◌, Option, Some, length, refl, sym, ap, ◌∙◌, subst, arith}
-use Rattle.std.proofs.lemmas.List.{length-append}
-use Rattle.std.specs.List.{list_all}
-use Rattle.std.specs.Str.{is_utf8}
-use Rattle.ph_calls.specs.declared.call.CreateRefund.{CreateRefund}
-use Rattle.ph_calls.specs.Keeps.{AreUtf8, IsReady, batch_after}
+use Rattle.std.specs.Prelude.{option_and_then, ◌||◌}
+use Rattle.std.proofs.Common.{◌≡◌, ℕ, ◌+◌, ◌^◌, ◌≤◌, ◌<◌, Bool, true, false, eqb, [], ◌∷◌, ◌++◌, Option, Some, length, refl, sym, ap, ◌∙◌, subst, arith, pos, ◌+ℤ◌}
+use Rattle.std.specs.List.{list_any}
+use Rattle.std.proofs.lemmas.Bool.{cond-true, eq-eqb, ne_eqb}
+use Rattle.std.proofs.lemmas.Int.{ints}
+use Rattle.std.proofs.lemmas.List.{append_assoc, length-append}
+use Rattle.ph_base.specs.declared.ids.Kind.{Kind}
+use Rattle.ph_base.specs.declared.ids.Kind.TheVariants as kind
+use Rattle.ph_items.specs.declared.charges.Capture.{Capture}
+use Rattle.ph_items.specs.declared.charges.Charge.{Charge}
+use Rattle.ph_items.specs.declared.event_kinds.EventKind.TheVariants as event
+use Rattle.ph_items.specs.declared.items.Item.{Item}
+use Rattle.ph_items.specs.declared.items.Item.TheVariants as item
+use Rattle.ph_items.specs.declared.refunds.Refund.{Refund}
+use Rattle.ph_items.specs.Charges.{charge_kind}
+use Rattle.ph_items.specs.Items.{charge_in}
+use Rattle.ph_items.specs.Kinds.{kind_of}
 use Rattle.ph_kinds.proofs.KeptLemmas.{first_kept}
+use Rattle.ph_calls.specs.declared.call.CreateRefund.{CreateRefund}
 use Rattle.ph_rows.specs.declared.rows.Row.{Row}
-use Rattle.ph_rows.specs.declared.charges.Capture.{Capture}
-use Rattle.ph_rows.specs.declared.charges.Charge.{Charge}
-use Rattle.ph_rows.specs.declared.event_kinds.EventKind.TheVariants as event
-use Rattle.ph_rows.specs.declared.items.Item.{Item}
-use Rattle.ph_rows.specs.declared.items.Item.TheVariants as item
-use Rattle.ph_rows.specs.declared.refunds.Refund.{Refund}
 use Rattle.ph_rows.specs.Batches.{BatchState, last_place, next_row}
-use Rattle.ph_rows.specs.Entering.{IsToldBy, MayBeEntered}
-use Rattle.ph_rows.specs.Items.{charge_in}
-use Rattle.ph_rows.specs.Kinds.{kind_of}
-use Rattle.ph_rows.specs.Origins.{HasOrigin}
-use Rattle.ph_rows.specs.Rows.{row_at}
-use Rattle.ph_rows.specs.Sound.{AllMayFollow, HasSums, IsInOrder, MayFollow, with_next}
+use Rattle.ph_rows.specs.Rows.{row_at, latest_of}
 use Rattle.ph_rows.specs.Views.{ViewState}
-use Rattle.ph_rows.specs.Weights.{texts_of}
-use Rattle.ph_rows.proofs.AmountLemmas.{IsRefunded, latest_of-last, refunded_sums}
-use Rattle.ph_rows.proofs.FollowLemmas.{first_follows, further_follows, origin_stands}
-use Rattle.ph_rows.proofs.HeldLemmas.{IsLoose, captured_is_loose, held_beside}
-use Rattle.ph_rows.proofs.MoveLemmas.{moves_stay}
-use Rattle.ph_rows.proofs.PresentLemmas.{IsCharge}
-use Rattle.ph_rows.proofs.SoundLemmas.{order_with, order_with_all, row_at-before, row_at-next}
+use Rattle.ph_rows.proofs.RowLemmas.{latest_of-last, row_at-before, row_at-next}
+use Rattle.ph_facts.specs.Amounts.{captured, captured_of, refunded, refunded_of}
+use Rattle.ph_facts.specs.Entering.{IsToldBy, MayBeEntered}
+use Rattle.ph_items.specs.Weights.{AreUtf8}
+use Rattle.ph_facts.specs.Keeps.{IsReady, batch_after}
+use Rattle.ph_facts.specs.Order.{AllMayFollow, IsInOrder, IsWithin, MayFollow, with_next}
+use Rattle.ph_facts.specs.Origins.{IsOrigin}
+use Rattle.ph_facts.specs.Tallies.{given}
+use Rattle.ph_facts.proofs.AmountLemmas.{captured_sum, refunded_sum}
+use Rattle.ph_facts.proofs.FollowLemmas.{MayStand, first_follows, further_follows}
+use Rattle.ph_facts.proofs.HeldLemmas.{IsLoose, captured_is_loose, held_beside}
+use Rattle.ph_facts.proofs.LawLemmas.{SaysSums, laws_of_charge, touches_charge}
+use Rattle.ph_facts.proofs.OrderLemmas.{amounts_stand, order_with, order_with_all, origin_stands, origins_stand, texts_stand}
+use Rattle.ph_facts.proofs.PresentLemmas.{IsCharge}
+use Rattle.ph_facts.proofs.TallyLemmas.{sum_known}
 use Rattle.ph_refunds.specs.Entry.{new_refund, refund_rows, refund_txn, refunded_charge, refunded_from, with_refund, with_refund_txn}
 use Rattle.ph_refunds.specs.Laws.{refund_texts}
 use Rattle.ph_refunds.specs.Refunds.{left_of}
 
--- the refund of an amount that is left of a charge may be entered
+-- the refund of an amount that is left of a card charge may be entered
 pub refund_enters : (state : ViewState) (entry : ℕ) (call : CreateRefund) (row : Row) (charge : Charge) (capture : Capture)
-    (amount : ℕ) → IsReady state → AreUtf8 (refund_texts call) → IsCharge state.rows row charge → 0 < left_of charge
-    → amount ≤ left_of charge
+    (amount : ℕ) → IsReady state → AreUtf8 (refund_texts call) → IsCharge state.rows row charge
+    → charge_kind charge.sort ≡ kind.Charge → 0 < left_of charge → amount ≤ left_of charge
     → MayBeEntered state (refund_rows call row.account row.object charge capture amount (batch_after state entry))
-refund_enters state entry call row charge capture amount ready texts found some within = record {
+refund_enters state entry call row charge capture amount ready texts found card some within = record {
   began = refl;
   at = refl;
   follow = follow;
-  charges = refunded_sums state.rows (txn ∷ []) made new refund charge after ready.sound.charges sums refunded refl refl refl refl;
-  held = held_beside state (made ∷ txn ∷ new ∷ []) order whole (tt, (tt, (loose, tt))) ready.sound.held;
-  disputes = moves_stay state.rows (made ∷ txn ∷ new ∷ []) refl ready.sound.disputes;
-  told = (subst (λ (o : Option Row). IsToldBy o event.ChargeRefunded) (sym (latest_of-last (made ∷ txn ∷ []) new)) refl, tt);
+  laws = laws_of_charge state.rows (made ∷ txn ∷ new ∷ []) row.object ready.sound.laws says apart refl
+      (held_beside state (made ∷ txn ∷ new ∷ []) order whole (tt, (tt, (loose, tt))) ready.sound.laws.held);
+  told = (subst (λ (o : Option Row). IsToldBy o event.ChargeRefunded) (sym (latest_of-last (made ∷ txn ∷ []) new)) card, tt);
 }
   where
     begun : BatchState
@@ -72,7 +79,7 @@ refund_enters state entry call row charge capture amount ready texts found some 
     new : Row
     new = next_row taking row.object row.account (item.Charge after)
 
-    room : length state.rows + 16 < 10 ^ 16
+    room : length state.rows + 64 < 10 ^ 16
     room = ready.room
 
     order : IsInOrder state
@@ -90,14 +97,15 @@ refund_enters state entry call row charge capture amount ready texts found some 
     count_third : length third.rows ≡ length second.rows + 1
     count_third = length-append second.rows (txn ∷ [])
 
-    origin : HasOrigin state.rows (Some (record { kind = kind_of (item.Charge charge); number = row.object }))
-    origin = subst (λ (content : Item). HasOrigin state.rows (Some (record { kind = kind_of content; number = row.object }))) found.is (origin_stands state row order found.stands)
+    origin : IsOrigin (row_at row.object state.rows) (record { kind = kind.Charge; number = row.object })
+    origin =
+        subst (λ (k : Kind). IsOrigin (row_at row.object state.rows) (record { kind = k; number = row.object })) card
+        (origin_stands state row (item.Charge charge) order found.stands found.is)
 
     made_follows : MayFollow state made
     made_follows =
-        first_follows state made
-        (record { few = omega arith; place = omega arith; at = refl; texts = first_kept call.metadata texts }) (omega arith)
-        origin (λ event is. absurd (cc))
+        first_follows state made (record { few = omega arith; place = omega arith; at = refl }) (omega arith)
+        (record { texts = first_kept call.metadata texts; within = tt; origins = (origin, tt); silent = λ event is. absurd (cc) })
 
     order_second : IsInOrder second
     order_second = order_with state made order made_follows
@@ -105,17 +113,17 @@ refund_enters state entry call row charge capture amount ready texts found some 
     made_stands : row_at made.place second.rows ≡ Some made
     made_stands = subst (λ (place : ℕ). row_at place second.rows ≡ Some made) (sym made_follows.place) (row_at-next state.rows made)
 
-    source : HasOrigin second.rows (Some (record { kind = kind_of (item.Refund refund); number = last_place refunding }))
+    source : IsOrigin (row_at (last_place refunding) second.rows) (record { kind = kind.Refund; number = last_place refunding })
     source =
         let same : made.object ≡ last_place refunding = omega arith in
-        subst (λ (n : ℕ). HasOrigin second.rows (Some (record { kind = kind_of (item.Refund refund); number = n }))) same
-        (origin_stands second made order_second made_stands)
+        subst (λ (n : ℕ). IsOrigin (row_at n second.rows) (record { kind = kind.Refund; number = n })) same
+        (origin_stands second made (item.Refund refund) order_second made_stands refl)
 
     txn_follows : MayFollow second txn
     txn_follows =
         let counted = count_second in
-        first_follows second txn (record { few = omega arith; place = omega arith; at = refl; texts = refl }) (omega arith)
-        source (λ event is. absurd (cc))
+        first_follows second txn (record { few = omega arith; place = omega arith; at = refl }) (omega arith)
+        (record { texts = refl; within = tt; origins = (source, tt); silent = λ event is. absurd (cc) })
 
     order_third : IsInOrder third
     order_third = order_with second txn order_second txn_follows
@@ -123,15 +131,24 @@ refund_enters state entry call row charge capture amount ready texts found some 
     stands : row_at row.place third.rows ≡ Some row
     stands = row_at-before row.place second.rows (txn ∷ []) row (row_at-before row.place state.rows (made ∷ []) row found.stands)
 
-    kept : list_all is_utf8 (texts_of (item.Charge charge)) ≡ true
-    kept = subst (λ (content : Item). list_all is_utf8 (texts_of content) ≡ true) found.is (order.texts row.place row found.stands)
+    fits : IsWithin charge
+    fits = amounts_stand state row (item.Charge charge) order found.stands found.is
+
+    new_stands : MayStand third.rows (item.Charge after)
+    new_stands =
+        let captured = fits.captured in
+        record {
+          texts = texts_stand state row (item.Charge charge) order found.stands found.is;
+          within = record { captured = captured; refunded = omega arith };
+          origins = origins_stand third row (item.Charge charge) order_third stands found.is;
+          silent = λ event is. absurd (cc);
+        }
 
     new_follows : MayFollow third new
     new_follows =
         let counted = count_second in
         let more = count_third in
-        further_follows third row new order_third stands
-        (record { few = omega arith; place = omega arith; at = refl; texts = kept })
+        further_follows third row new order_third stands (record { few = omega arith; place = omega arith; at = refl }) new_stands
         (record { object = refl; account = refl; kind = sym (ap kind_of found.is) }) refl
 
     follow : AllMayFollow state (made ∷ txn ∷ new ∷ [])
@@ -140,14 +157,35 @@ refund_enters state entry call row charge capture amount ready texts found some 
     whole : IsInOrder (record state { rows = state.rows ++ (made ∷ txn ∷ new ∷ []) })
     whole = order_with_all state (made ∷ txn ∷ new ∷ []) order follow
 
-    sums : HasSums row.object charge state.rows
-    sums = ready.sound.charges row.object row charge found.latest found.is
+    latest : latest_of row.object (state.rows ++ (made ∷ txn ∷ new ∷ [])) ≡ Some new
+    latest =
+        ap (latest_of row.object) (sym (append_assoc state.rows (made ∷ txn ∷ []) (new ∷ [])))
+        ∙ latest_of-last (state.rows ++ (made ∷ txn ∷ [])) new
 
-    refunded : IsRefunded charge after amount
-    refunded = record { amount = refl; captured = refl; refunded = refl; within = omega arith }
+    says : SaysSums row.object (state.rows ++ (made ∷ txn ∷ new ∷ []))
+    says =
+        let was_captured : pos charge.amount_captured ≡ captured_of row.object state.rows =
+        ready.sound.laws.captured row.object row (pos charge.amount_captured) found.latest (ap captured.said found.is) in
+        let was_refunded : charge.amount_refunded ≡ refunded_of row.object state.rows =
+        ready.sound.laws.refunded row.object row charge.amount_refunded found.latest (ap refunded.said found.is) in
+        let takes : given 0 row.object (refunded.adds (item.Refund refund)) ≡ amount =
+        cond-true (eqb row.object row.object) amount 0 (eq-eqb row.object row.object refl) in
+        record {
+          captured = sum_known captured row.object state.rows (made ∷ txn ∷ new ∷ []) new (pos charge.amount_captured) captured_sum latest refl
+              (let right : pos charge.amount_captured ≡ captured_of row.object state.rows +ℤ (pos 0 +ℤ (pos 0 +ℤ (pos 0 +ℤ pos 0))) =
+              omega (arith, ints) in right);
+          refunded = sum_known refunded row.object state.rows (made ∷ txn ∷ new ∷ []) new (charge.amount_refunded + amount) refunded_sum latest refl
+              (let right : charge.amount_refunded + amount
+              ≡ refunded_of row.object state.rows + (given 0 row.object (refunded.adds (item.Refund refund)) + (0 + (0 + 0))) =
+              omega arith in right);
+        }
+
+    apart : (other : ℕ) → (other ≡ row.object → ⊥) → list_any (touches_charge other) (made ∷ txn ∷ new ∷ []) ≡ false
+    apart other differs =
+        ap (λ (b : Bool). (b || false) || (false || ((b || b) || false))) (ne_eqb row.object other (λ same. differs (sym same)))
 
     loose : IsLoose state.rows row.object
     loose =
-        captured_is_loose state.rows row.object charge ready.sound.held
+        captured_is_loose state.rows row.object charge ready.sound.laws.held
         (ap (option_and_then (λ (r : Row). charge_in r.item)) found.latest ∙ ap charge_in found.is)
-        (λ none. omega arith)
+        (λ none. (let within_captured : charge.amount_captured ≤ charge.amount = fits.captured in omega arith))

@@ -3,15 +3,17 @@ use Rattle.std.specs.Prelude.{◌==◌, nat_lt, unwrap_or, codes}
 use Rattle.std.proofs.Common.{◌≡◌, ℕ, ◌+◌, ◌≤◌, ◌<◌, false, eqb, Option, None, Some, refl, ap, arith}
 use Rattle.std.proofs.lemmas.Bool.{cond_both, eqb-false}
 use Rattle.std.proofs.lemmas.Bool.Decides.{nat_tests}
-use Rattle.ph_calls.specs.Keeps.{AddsSound, KeepsSound, batch_after}
-use Rattle.ph_calls.specs.Outcomes.{Refuses, Adds}
+use Rattle.ph_facts.specs.Keeps.{AddsSound, KeepsSound, batch_after}
+use Rattle.ph_facts.specs.Outcomes.{Refuses, Adds}
 use Rattle.ph_errors.specs.Table.{error_of, ChargeAlreadyRefunded, ChargeDisputed, InvalidValue}
 use Rattle.ph_rows.specs.declared.rows.Row.{Row}
-use Rattle.ph_rows.specs.declared.charges.Capture.{Capture}
-use Rattle.ph_rows.specs.declared.charges.Charge.{Charge}
+use Rattle.ph_items.specs.declared.charges.Capture.{Capture}
+use Rattle.ph_base.specs.declared.ids.Kind.TheVariants as kind
+use Rattle.ph_items.specs.declared.charges.Charge.{Charge}
+use Rattle.ph_items.specs.Charges.{charge_kind}
 use Rattle.ph_rows.specs.Batches.{BatchState, last_place}
-use Rattle.ph_rows.specs.Sound.{HasSums}
-use Rattle.ph_rows.proofs.PresentLemmas.{IsCharge}
+use Rattle.ph_facts.specs.Amounts.{refunded}
+use Rattle.ph_facts.proofs.PresentLemmas.{IsCharge}
 use Rattle.ph_refunds.specs.Entry.{refund_rows}
 use Rattle.ph_refunds.specs.Laws.{RefundsAreSums, refund_texts, summed}
 use Rattle.ph_refunds.specs.Refunds.{is_disputed, left_of, refund_amount, refund_by, refund_left, refund_of, refund_outcome}
@@ -23,12 +25,12 @@ pub refund_sums : RefundsAreSums
 refund_sums state account call batch sound =
     alike_at (λ one other. one ≡ other) state (refund_of state.rows call batch)
     (λ row charge. refund_of state.rows call batch row (summed state.rows row.object charge)) call.charge
-    call.payment_intent sound (λ error. refl) (λ row charge found. ap (refund_of state.rows call batch row) (same row charge found))
+    call.payment_intent sound (λ error. refl) (λ row charge found card. ap (refund_of state.rows call batch row) (same row charge found))
   where
     same : (row : Row) (charge : Charge) → IsCharge state.rows row charge → charge ≡ summed state.rows row.object charge
     same row charge found =
-        let sums : HasSums row.object charge state.rows = sound.charges row.object row charge found.latest found.is in
-        ap (λ (n : ℕ). record charge { amount_refunded = n }) sums.refunded
+        ap (λ (n : ℕ). record charge { amount_refunded = n })
+        (sound.laws.refunded row.object row charge.amount_refunded found.latest (ap refunded.said found.is))
 
 -- a number that isn't above another is at most it
 not_above : (left amount : ℕ) → nat_lt left amount ≡ false → amount ≤ left
@@ -42,30 +44,31 @@ not_none left e = let some : left ≡ 0 → ⊥ = eqb-false left 0 e in grind ar
 pub refund_keeps : KeepsSound refund_texts refund_outcome
 refund_keeps state entry account call ready texts =
     alike_at (λ outcome again. AddsSound state outcome) state (refund_of state.rows call begun) (refund_of state.rows call begun)
-    call.charge call.payment_intent ready.sound (λ error. tt) (λ row charge found. by row charge found charge.capture)
+    call.charge call.payment_intent ready.sound (λ error. tt) (λ row charge found card. by row charge found card charge.capture)
   where
     begun : BatchState
     begun = batch_after state entry
 
     of_amount : (row : Row) (charge : Charge) (capture : Capture) (amount : ℕ) → IsCharge state.rows row charge
-        → 0 < left_of charge → AddsSound state (refund_amount call begun row charge capture amount)
-    of_amount row charge capture amount found some =
+        → charge_kind charge.sort ≡ kind.Charge → 0 < left_of charge → AddsSound state (refund_amount call begun row charge capture amount)
+    of_amount row charge capture amount found card some =
         cond_both (nat_lt (left_of charge) amount) (Refuses (error_of (InvalidValue (codes "amount"))))
         (Adds (last_place begun + 1) (refund_rows call row.account row.object charge capture amount begun)) (AddsSound state)
         (λ above. tt)
-        (λ within. refund_enters state entry call row charge capture amount ready texts found some (not_above (left_of charge) amount within))
+        (λ within. refund_enters state entry call row charge capture amount ready texts found card some (not_above (left_of charge) amount within))
 
     of_left : (row : Row) (charge : Charge) (capture : Capture) → IsCharge state.rows row charge
-        → AddsSound state (refund_left call begun row charge capture)
-    of_left row charge capture found =
+        → charge_kind charge.sort ≡ kind.Charge → AddsSound state (refund_left call begun row charge capture)
+    of_left row charge capture found card =
         cond_both (left_of charge == 0) (Refuses (error_of ChargeAlreadyRefunded))
         (refund_amount call begun row charge capture (unwrap_or call.amount (left_of charge))) (AddsSound state) (λ none. tt)
-        (λ some. of_amount row charge capture (unwrap_or call.amount (left_of charge)) found (not_none (left_of charge) some))
+        (λ some. of_amount row charge capture (unwrap_or call.amount (left_of charge)) found card (not_none (left_of charge) some))
 
-    by : (row : Row) (charge : Charge) → IsCharge state.rows row charge → (capture : Option Capture)
+    by : (row : Row) (charge : Charge) → IsCharge state.rows row charge → charge_kind charge.sort ≡ kind.Charge
+        → (capture : Option Capture)
         → AddsSound state (refund_by state.rows call begun row charge capture)
-    by row charge found None = tt
-    by row charge found (Some capture) =
+    by row charge found card None = tt
+    by row charge found card (Some capture) =
         cond_both (is_disputed state.rows charge.dispute) (Refuses (error_of ChargeDisputed))
         (refund_left call begun row charge capture) (AddsSound state) (λ disputed. tt)
-        (λ undisputed. of_left row charge capture found)
+        (λ undisputed. of_left row charge capture found card)

@@ -2,21 +2,22 @@
 use Rattle.std.specs.Prelude.{ℕ, ◌+◌, max, pos, neg_ℤ}
 use Rattle.ph_calls.specs.declared.call.CreateRefund.{CreateRefund}
 use Rattle.ph_kinds.specs.Kept.{first_metadata}
-use Rattle.ph_rows.specs.declared.charges.Capture.{Capture}
-use Rattle.ph_rows.specs.declared.charges.Charge.{Charge}
-use Rattle.ph_rows.specs.declared.event_kinds.EventKind.TheVariants as event
-use Rattle.ph_rows.specs.declared.items.Item.TheVariants as item
-use Rattle.ph_rows.specs.declared.refunds.Refund.{Refund}
-use Rattle.ph_rows.specs.declared.transactions.Txn.{Txn}
-use Rattle.ph_rows.specs.declared.transactions.TxnSource.TheVariants as source
-use Rattle.ph_rows.specs.declared.transactions.TxnType.TheVariants as sort
+use Rattle.ph_items.specs.declared.charges.Capture.{Capture}
+use Rattle.ph_items.specs.declared.charges.Charge.{Charge}
+use Rattle.ph_items.specs.declared.event_kinds.EventKind.TheVariants as event
+use Rattle.ph_items.specs.declared.items.Item.TheVariants as item
+use Rattle.ph_items.specs.Charges.{paid_intent}
+use Rattle.ph_items.specs.declared.refunds.Refund.{Refund}
+use Rattle.ph_items.specs.declared.transactions.Txn.{Txn}
+use Rattle.ph_items.specs.declared.transactions.TxnSource.TheVariants as source
+use Rattle.ph_items.specs.declared.transactions.TxnType.TheVariants as sort
 use Rattle.ph_rows.specs.Batches.{BatchState, last_place, with_row, with_announced}
 
 -- the refund of an amount of a charge, as its call says, whose row is the next one: its transaction stands behind it
 abbrev pub new_refund : CreateRefund → ℕ → Charge → ℕ → BatchState → Refund
 new_refund call object charge amount batch = record {
   charge = object;
-  intent = charge.intent;
+  intent = paid_intent charge.sort;
   amount = amount;
   currency = charge.currency;
   reason = call.reason;

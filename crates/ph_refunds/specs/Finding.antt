@@ -1,11 +1,11 @@
 -- The charge that a refund names: by its own id, or as the latest charge of a payment intent.
 use Rattle.std.specs.Prelude.{ℕ, List, Option, None, Some, codes, option_and_then}
 use Rattle.ph_base.specs.declared.ids.Kind.TheVariants as kind
-use Rattle.ph_calls.specs.Outcomes.{Outcome, Refuses}
+use Rattle.ph_facts.specs.Outcomes.{Outcome, Refuses}
 use Rattle.ph_errors.specs.Table.{error_of, NoSuchObject, ParameterMissing}
 use Rattle.ph_rows.specs.declared.rows.Row.{Row}
-use Rattle.ph_rows.specs.declared.charges.Charge.{Charge}
-use Rattle.ph_rows.specs.Items.{charge_in, latest_charge_in}
+use Rattle.ph_items.specs.declared.charges.Charge.{Charge}
+use Rattle.ph_items.specs.Items.{charge_in, latest_charge_in}
 use Rattle.ph_rows.specs.Names.{object_named}
 use Rattle.ph_rows.specs.Rows.{latest_of}
 

@@ -1,13 +1,13 @@
 -- The laws of refunds.
 use Rattle.std.specs.Prelude.{◌≡◌, ℕ, List}
 use Rattle.ph_calls.specs.declared.call.CreateRefund.{CreateRefund}
-use Rattle.ph_calls.specs.Outcomes.{Outcome}
+use Rattle.ph_facts.specs.Outcomes.{Outcome}
 use Rattle.ph_kinds.specs.Kept.{named_texts}
 use Rattle.ph_rows.specs.declared.rows.Row.{Row}
-use Rattle.ph_rows.specs.declared.charges.Charge.{Charge}
+use Rattle.ph_items.specs.declared.charges.Charge.{Charge}
 use Rattle.ph_rows.specs.Batches.{BatchState}
-use Rattle.ph_rows.specs.Sound.{IsSound}
-use Rattle.ph_rows.specs.Transactions.{refunded_of}
+use Rattle.ph_facts.specs.Sound.{IsSound}
+use Rattle.ph_facts.specs.Amounts.{refunded_of}
 use Rattle.ph_rows.specs.Views.{ViewState}
 use Rattle.ph_refunds.specs.Finding.{made_at}
 use Rattle.ph_refunds.specs.Refunds.{refund_of, refund_outcome}

@@ -1,16 +1,16 @@
 -- The refund.
 use Rattle.std.specs.Prelude.{ℕ, ◌+◌, ◌-◌, Bool, true, false, ◌==◌, not, nat_lt, if◌then◌else◌, List, Option, None, Some, unwrap_or, codes, option_and_then}
 use Rattle.ph_calls.specs.declared.call.CreateRefund.{CreateRefund}
-use Rattle.ph_calls.specs.Outcomes.{Outcome, Refuses, Adds}
+use Rattle.ph_facts.specs.Outcomes.{Outcome, Refuses, Adds}
 use Rattle.ph_errors.specs.Table.{error_of, ChargeNotCaptured, ChargeDisputed, ChargeAlreadyRefunded, InvalidValue}
 use Rattle.ph_rows.specs.declared.rows.Row.{Row}
-use Rattle.ph_rows.specs.declared.charges.Capture.{Capture}
-use Rattle.ph_rows.specs.declared.charges.Charge.{Charge}
-use Rattle.ph_rows.specs.declared.disputes.Dispute.{Dispute}
-use Rattle.ph_rows.specs.declared.disputes.DisputeStatus.{DisputeStatus}
-use Rattle.ph_rows.specs.declared.disputes.DisputeStatus.TheVariants as status
+use Rattle.ph_items.specs.declared.charges.Capture.{Capture}
+use Rattle.ph_items.specs.declared.charges.Charge.{Charge}
+use Rattle.ph_items.specs.declared.disputes.Dispute.{Dispute}
+use Rattle.ph_items.specs.declared.disputes.DisputeStatus.{DisputeStatus}
+use Rattle.ph_items.specs.declared.disputes.DisputeStatus.TheVariants as status
 use Rattle.ph_rows.specs.Batches.{BatchState, last_place}
-use Rattle.ph_rows.specs.Items.{dispute_in}
+use Rattle.ph_items.specs.Items.{dispute_in}
 use Rattle.ph_rows.specs.Rows.{latest_of}
 use Rattle.ph_refunds.specs.Entry.{refund_rows}
 use Rattle.ph_refunds.specs.Finding.{made_at}

@@ -6,9 +6,10 @@ ghost use Rattle.ph_refunds.specs.Refunds.{left_of};
 
 use ph_base::NoMemory;
 use ph_calls::CreateRefund;
+use ph_items::{Capture, Charge, EventKind, Item, Refund, Txn, TxnSource, TxnType};
 use ph_kinds::first_metadata;
 use ph_money::{Amount, SignedAmount};
-use ph_rows::{Batch, Capture, Charge, EventKind, Item, Refund, Txn, TxnSource, TxnType};
+use ph_rows::Batch;
 use std::alloc::Global;
 
 /// What can still be refunded of a charge, in minor units of its currency.
@@ -60,7 +61,7 @@ fn new_refund(
     };
     Ok(Refund {
         charge: object,
-        intent: charge.intent,
+        intent: charge.sort.intent(),
         amount,
         currency: charge.currency,
         reason: call.reason,

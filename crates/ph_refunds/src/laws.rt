@@ -1,5 +1,5 @@
 //! Laws of refunds.
-ghost use Rattle.ph_calls.specs.Keeps.{KeepsSound};
+ghost use Rattle.ph_facts.specs.Keeps.{KeepsSound};
 ghost use Rattle.ph_refunds.specs.Laws.{RefundsAreSums, refund_texts};
 ghost use Rattle.ph_refunds.specs.Refunds.{refund_outcome};
 

@@ -1,7 +1,7 @@
 //! The refund.
 ghost use Rattle.std.specs.Prelude.{◌≡◌, ◌<◌};
 ghost use Rattle.std.specs.Option.{option_copied};
-ghost use Rattle.ph_calls.specs.Outcomes.{Gives};
+ghost use Rattle.ph_facts.specs.Outcomes.{Gives};
 ghost use Rattle.ph_refunds.specs.Finding.{made_of_row};
 ghost use Rattle.ph_refunds.specs.Refunds.{is_disputed, is_won, left_of, refund_amount, refund_captured, refund_left, refund_of, refund_outcome};
 
@@ -10,8 +10,9 @@ use crate::finding::latest_charge_named;
 use ph_base::Kind;
 use ph_calls::CreateRefund;
 use ph_errors::{ApiError, Refusal};
+use ph_items::{Capture, Charge, DisputeStatus};
 use ph_money::Amount;
-use ph_rows::{Batch, Capture, Charge, DisputeStatus, Row, View, object_named};
+use ph_rows::{Batch, Row, View, object_named};
 use std::alloc::Global;
 
 // Whether the status is that of a dispute that is won.

@@ -1,3 +1,4 @@
+-- Balances, with one row more.
 use Rattle.std.proofs.Common.{◌≡◌, ℕ, ◌+◌, ◌<◌, suc, Bool, true, false, cond, List, [], ◌∷◌, length, get_or, drop, Option, None, Some, sym, ap, ◌∙◌, arith}
 use Rattle.std.proofs.Math.Seq.{drop-cons}
 use Rattle.std.specs.Prelude.{ℤ, pos, ◌+ℤ◌, ◌==◌}
@@ -5,8 +6,9 @@ use Rattle.std.specs.List.{filter, filter_map, cons_option}
 use Rattle.std.proofs.lemmas.Int.{ints}
 use Rattle.ph_money.specs.declared.currencies.Currency.{Currency}
 use Rattle.ph_rows.specs.declared.rows.Row.{Row}
-use Rattle.ph_rows.specs.declared.movements.Movement.{Movement}
-use Rattle.ph_rows.specs.Balances.{movement_of, currency_number, net_of, counts, balance_of}
+use Rattle.ph_items.specs.declared.movements.Movement.{Movement}
+use Rattle.ph_items.specs.Movements.{movement_of, currency_number, counts}
+use Rattle.ph_rows.specs.Balances.{net_of, balance_of}
 
 -- what is moved by the movements that pass both tests, the second one first
 abbrev net_passing : (Movement → Bool) → (Movement → Bool) → List Movement → ℤ

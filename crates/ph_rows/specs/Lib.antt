@@ -1,14 +1,6 @@
 pub mod Balances
 pub mod Batches
-pub mod Entering
-pub mod Items
-pub mod Kinds
-pub mod Metadata
 pub mod Names
-pub mod Origins
 pub mod Rows
-pub mod Sound
-pub mod Transactions
 pub mod Views
 pub mod Weights
-pub mod Words

@@ -5,7 +5,7 @@ use Rattle.ph_base.specs.declared.ids.Kind.{Kind}
 use Rattle.ph_base.specs.Ids.{prefix_of}
 use Rattle.ph_base.specs.Numbers.{decimal, padded}
 use Rattle.ph_rows.specs.declared.rows.Row.{Row}
-use Rattle.ph_rows.specs.Kinds.{is_kind}
+use Rattle.ph_items.specs.Kinds.{is_kind}
 use Rattle.ph_rows.specs.Rows.{latest_of}
 
 -- the number is one whose printed id, with the prefix of the kind and sixteen digits, is the text

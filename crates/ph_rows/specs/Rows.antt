@@ -3,7 +3,7 @@ use Rattle.std.specs.Prelude.{ℕ, ◌-◌, max, min, Bool, ◌==◌, ◌&&◌, 
 use Rattle.std.specs.List.{fold, filter}
 use Rattle.ph_base.specs.declared.ids.Kind.{Kind}
 use Rattle.ph_rows.specs.declared.rows.Row.{Row}
-use Rattle.ph_rows.specs.Kinds.{is_kind}
+use Rattle.ph_items.specs.Kinds.{is_kind}
 
 -- the row of a place; places count from 1
 abbrev pub row_at : ℕ → List Row → Option Row

@@ -4,13 +4,11 @@ ghost use Rattle.std.specs.Option.{option_copied};
 ghost use Rattle.ph_rows.specs.Rows.{latest_of};
 ghost use Rattle.ph_rows.specs.Batches.{empty_batch, last_place, with_row, with_announced, account_of, event_row, event_rows, made_rows, version_with};
 
-use crate::event_kinds::EventKind;
-use crate::events::Event;
-use crate::items::Item;
 use crate::rows::Row;
 use crate::scans;
 use crate::views::View;
 use ph_base::{Bytes, NoMemory};
+use ph_items::{Event, EventKind, Item};
 use std::alloc::Global;
 use std::marker::Model;
 

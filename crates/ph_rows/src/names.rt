@@ -1,13 +1,13 @@
 //! The object that an id in a path or a parameter names.
 ghost use Rattle.std.specs.Prelude.{◌≡◌};
 ghost use Rattle.std.specs.Option.{option_copied};
-ghost use Rattle.ph_rows.specs.Kinds.{is_kind};
+ghost use Rattle.ph_items.specs.Kinds.{is_kind};
 ghost use Rattle.ph_rows.specs.Names.{number_named, object_named, owned_named};
 
-use crate::items::kind_number;
 use crate::rows::Row;
 use crate::views::View;
 use ph_base::{Kind, read_id};
+use ph_items::kind_number;
 
 // The number whose printed id, as one of the kind, a text is.
 fn number_named(kind: Kind, text: &[u8]) -> Option<u64>

@@ -1,6 +1,6 @@
 //! A row: one version of one object.
 
-use crate::items::Item;
+use ph_items::Item;
 
 /// One version of one object, as one entry of the history left it. Rows are never changed or taken back: the
 /// present version of an object is its last row.

@@ -4,9 +4,9 @@ ghost use Rattle.std.specs.Option.{option_copied};
 ghost use Rattle.ph_rows.specs.Rows.{row_at, latest_of, is_first_of, greater, lesser, newest_object, oldest_object, newest_of, oldest_of};
 ghost use Rattle.ph_rows.specs.Balances.{balance_of};
 
-use crate::items::kind_number;
 use crate::rows::Row;
 use ph_base::Kind;
+use ph_items::kind_number;
 use ph_money::Currency;
 
 /// The row of a place.

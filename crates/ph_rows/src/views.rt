@@ -9,9 +9,6 @@ use crate::rows::Row;
 use ph_base::Kind;
 use ph_money::Currency;
 
-/// The last time that a clock shows, in seconds since 1970: the last second of the year 9999.
-pub const CLOCK_LIMIT: u64 = 253_402_300_799;
-
 /// The rows of a history and the time, to be read. No call takes memory.
 pub trait View {
     /// The rows and the time.

@@ -1,22 +1,19 @@
 //! What rows weigh.
-ghost use Rattle.std.specs.Prelude.{◌+◌, []};
-ghost use Rattle.std.specs.Option.{option_copied};
-ghost use Rattle.ph_rows.specs.Weights.{with_text, method_text, metadata_texts, texts_of, total_length, rows_weight, FitsOrNone};
+ghost use Rattle.std.specs.Prelude.{◌+◌};
+ghost use Rattle.ph_items.specs.Weights.{FitsOrNone};
+ghost use Rattle.ph_rows.specs.Weights.{rows_weight};
 
-use crate::items::Item;
-use crate::metadata_pairs::MetadataPair;
-use crate::payment_methods::PaymentMethod;
 use crate::rows::Row;
-use ph_base::Bytes;
 
 impl Row {
-    ghost use Rattle.ph_rows.specs.Weights.{row_weight, FitsOrNone};
+    ghost use Rattle.ph_items.specs.Weights.{FitsOrNone};
+    ghost use Rattle.ph_rows.specs.Weights.{row_weight};
 
     /// What the row weighs: 256, and the lengths of its texts. None exactly where 64 bits don't hold it.
     pub fn weight(&self) -> Option<u64>
         ensures { FitsOrNone result (row_weight self.now) }
     {
-        plus_item(256, &self.item)
+        self.item.weight_from(256)
     }
 }
 
@@ -27,66 +24,6 @@ pub fn weight_with_rows(weight: u64, rows: &[Row]) -> Option<u64>
     let mut sum = weight;
     for row in rows {
         sum = sum.checked_add(row.weight()?)?;
-    }
-    Some(sum)
-}
-
-// A sum and the lengths of an item's texts.
-fn plus_item(sum: u64, item: &Item) -> Option<u64>
-    ensures { FitsOrNone result (sum + total_length (texts_of item.now)) }
-{
-    match item {
-        Item::Account(account) => {
-            let sum = plus_text(sum, account.email.as_ref())?;
-            plus_pairs(sum, account.metadata.pairs())
-        }
-        Item::Intent(intent) => {
-            let sum = plus_method(sum, intent.payment_method.as_ref())?;
-            let sum = plus_text(sum, intent.description.as_ref())?;
-            let sum = plus_text(sum, intent.transfer_group.as_ref())?;
-            plus_pairs(sum, intent.metadata.pairs())
-        }
-        Item::Charge(charge) => {
-            let sum = plus_method(sum, charge.payment_method.as_ref())?;
-            let sum = plus_text(sum, charge.description.as_ref())?;
-            let sum = plus_text(sum, charge.transfer_group.as_ref())?;
-            plus_pairs(sum, charge.metadata.pairs())
-        }
-        Item::Refund(refund) => plus_pairs(sum, refund.metadata.pairs()),
-        Item::Dispute(dispute) => plus_text(sum, dispute.evidence.as_ref()),
-        Item::Attempt(_) | Item::Txn(_) => Some(sum),
-        Item::Event(event) => plus_text(sum, event.key.as_ref()),
-    }
-}
-
-// A sum and the length of a text, where there is one.
-fn plus_text(sum: u64, text: Option<&Bytes>) -> Option<u64>
-    ensures { FitsOrNone result (sum + total_length (with_text (option_copied text.entry) [])) }
-{
-    match text {
-        Some(text) => sum.checked_add(text.as_slice().len() as u64),
-        None => Some(sum),
-    }
-}
-
-// A sum and the length of the name of a payment method, where there is one.
-fn plus_method(sum: u64, method: Option<&PaymentMethod>) -> Option<u64>
-    ensures { FitsOrNone result (sum + total_length (with_text (method_text (option_copied method.entry)) [])) }
-{
-    match method {
-        Some(method) => plus_text(sum, Some(&method.text)),
-        None => Some(sum),
-    }
-}
-
-// A sum and the lengths of the names and the texts of metadata.
-fn plus_pairs(before: u64, pairs: &[MetadataPair]) -> Option<u64>
-    ensures { FitsOrNone result (before + total_length (metadata_texts pairs.now)) }
-{
-    let mut sum = before;
-    for pair in pairs {
-        let named = sum.checked_add(pair.key.as_slice().len() as u64)?;
-        sum = named.checked_add(pair.value.as_slice().len() as u64)?;
     }
     Some(sum)
 }

@@ -7,7 +7,7 @@ use Rattle.std.proofs.lemmas.Bool.{eqb-true}
 use Rattle.std.proofs.lemmas.Option.{slice_get_within, get_or_from_slice_get, slice_get-get_or}
 use Rattle.ph_rows.specs.declared.rows.Row.{Row}
 use Rattle.ph_rows.specs.Rows.{row_at}
-use Rattle.ph_rows.proofs.SoundLemmas.{picked}
+use Rattle.ph_rows.proofs.RowLemmas.{picked}
 use Rattle.ph_views.proofs.SearchLemmas.{row_at-is}
 
 -- a row that passes settles it

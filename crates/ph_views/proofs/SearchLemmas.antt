@@ -7,7 +7,7 @@ use Rattle.std.proofs.lemmas.List.Sums.{fold_push}
 use Rattle.std.proofs.lemmas.Option.{slice_get_within, get_or_from_slice_get}
 use Rattle.ph_rows.specs.declared.rows.Row.{Row}
 use Rattle.ph_rows.specs.Rows.{row_at, later_version, latest_of}
-use Rattle.ph_rows.proofs.SoundLemmas.{picked}
+use Rattle.ph_rows.proofs.RowLemmas.{picked}
 use Rattle.ph_views.specs.Objects.{version_before}
 
 -- the search has come back to a place: the version is the last one among the rows up to there

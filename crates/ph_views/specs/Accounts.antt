@@ -1,19 +1,12 @@
 -- The document of an account.
 use Rattle.std.specs.Prelude.{ℕ, true, List, [], ◌∷◌, ◌++◌, codes}
 use Rattle.ph_base.specs.declared.ids.Kind.TheVariants as kind
-use Rattle.ph_rows.specs.declared.accounts.Account.{Account}
-use Rattle.ph_rows.specs.declared.accounts.AccountType.{AccountType}
-use Rattle.ph_rows.specs.declared.accounts.AccountType.TheVariants as sort
+use Rattle.ph_items.specs.declared.accounts.Account.{Account}
+use Rattle.ph_items.specs.Words.{account_type_text}
 use Rattle.ph_json.specs.declared.doc.Doc.{Doc}
 use Rattle.ph_json.specs.declared.doc.Doc.TheVariants.{Truth, Text, Object}
 use Rattle.ph_json.specs.Values.{text_or_null}
 use Rattle.ph_views.specs.Values.{moment_doc, printed_id, metadata_doc}
-
--- the word of an account's type
-abbrev pub account_type_text : AccountType → List ℕ
-account_type_text sort.Standard = codes "standard"
-account_type_text sort.Express = codes "express"
-account_type_text sort.Custom = codes "custom"
 
 -- whose it is
 unfoldable pub holder_members : Account → List (List ℕ × Doc)

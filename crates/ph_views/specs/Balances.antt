@@ -5,8 +5,9 @@ use Rattle.ph_money.specs.declared.currencies.Currency.{Currency}
 use Rattle.ph_money.specs.declared.currencies.Currency.TheVariants.{Usd}
 use Rattle.ph_money.specs.Currencies.{code_of, currencies}
 use Rattle.ph_rows.specs.declared.rows.Row.{Row}
-use Rattle.ph_rows.specs.declared.movements.Movement.{Movement}
-use Rattle.ph_rows.specs.Balances.{movement_of, currency_number, balance_of}
+use Rattle.ph_items.specs.declared.movements.Movement.{Movement}
+use Rattle.ph_items.specs.Movements.{movement_of, currency_number}
+use Rattle.ph_rows.specs.Balances.{balance_of}
 use Rattle.ph_json.specs.declared.doc.Doc.{Doc}
 use Rattle.ph_json.specs.declared.doc.Doc.TheVariants as doc
 use Rattle.ph_json.specs.declared.doc.Doc.TheVariants.{Number, Text, Truth, Object}

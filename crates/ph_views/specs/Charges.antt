@@ -2,12 +2,13 @@
 use Rattle.std.specs.Prelude.{ℕ, Bool, true, false, ◌==◌, ◌&&◌, nat_lt, is_some, pos, List, [], ◌∷◌, ◌++◌, Option, None, Some, option_map, codes}
 use Rattle.ph_base.specs.declared.ids.Kind.TheVariants as kind
 use Rattle.ph_money.specs.Currencies.{code_of}
-use Rattle.ph_rows.specs.declared.charges.Capture.{Capture}
-use Rattle.ph_rows.specs.declared.charges.Charge.{Charge}
-use Rattle.ph_rows.specs.declared.charges.ChargeStatus.{ChargeStatus}
-use Rattle.ph_rows.specs.declared.charges.ChargeStatus.TheVariants as status
-use Rattle.ph_rows.specs.Words.{charge_status_text}
-use Rattle.ph_rows.specs.Weights.{method_text}
+use Rattle.ph_items.specs.declared.charges.Capture.{Capture}
+use Rattle.ph_items.specs.declared.charges.Charge.{Charge}
+use Rattle.ph_items.specs.declared.charges.ChargeStatus.{ChargeStatus}
+use Rattle.ph_items.specs.declared.charges.ChargeStatus.TheVariants as status
+use Rattle.ph_items.specs.Charges.{charge_kind, paid_intent, source_transfer}
+use Rattle.ph_items.specs.Words.{charge_status_text}
+use Rattle.ph_items.specs.Weights.{method_text}
 use Rattle.ph_errors.specs.declared.kinds.Code.{Code}
 use Rattle.ph_errors.specs.declared.kinds.Code.TheVariants as code
 use Rattle.ph_errors.specs.Names.{code_name}
@@ -51,7 +52,7 @@ unfoldable pub charge_name_members : ℕ → ℕ → Charge → List (List ℕ �
 charge_name_members created object charge =
     (codes "created", moment_doc created)
     ∷ (codes "description", text_or_null charge.description)
-    ∷ (codes "id", Text (printed_id kind.Charge object))
+    ∷ (codes "id", Text (printed_id (charge_kind charge.sort) object))
     ∷ (codes "livemode", Truth false)
     ∷ (codes "metadata", metadata_doc charge.metadata)
     ∷ (codes "object", Text (codes "charge"))
@@ -72,9 +73,9 @@ charge_progress_members charge =
 -- what it pays, and how; no transfers are made yet
 unfoldable pub charge_payment_members : Charge → List (List ℕ × Doc)
 charge_payment_members charge =
-    (codes "payment_intent", Text (printed_id kind.Intent charge.intent))
+    (codes "payment_intent", id_or_null kind.Intent (paid_intent charge.sort))
     ∷ (codes "payment_method", text_or_null (method_text charge.payment_method))
-    ∷ (codes "source_transfer", Null)
+    ∷ (codes "source_transfer", id_or_null kind.Transfer (source_transfer charge.sort))
     ∷ (codes "transfer", Null)
     ∷ (codes "transfer_group", text_or_null charge.transfer_group)
     ∷ []

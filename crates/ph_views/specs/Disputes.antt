@@ -2,12 +2,12 @@
 use Rattle.std.specs.Prelude.{ℕ, false, pos, List, [], ◌∷◌, ◌++◌, Option, codes}
 use Rattle.ph_base.specs.declared.ids.Kind.TheVariants as kind
 use Rattle.ph_money.specs.Currencies.{code_of}
-use Rattle.ph_rows.specs.declared.disputes.Dispute.{Dispute}
-use Rattle.ph_rows.specs.Words.{dispute_status_text}
+use Rattle.ph_items.specs.declared.disputes.Dispute.{Dispute}
+use Rattle.ph_items.specs.Words.{dispute_status_text}
 use Rattle.ph_json.specs.declared.doc.Doc.{Doc}
 use Rattle.ph_json.specs.declared.doc.Doc.TheVariants.{Truth, Number, Text, Object}
 use Rattle.ph_json.specs.Values.{text_or_null}
-use Rattle.ph_views.specs.Values.{moment_doc, printed_id}
+use Rattle.ph_views.specs.Values.{moment_doc, printed_id, id_or_null}
 
 -- what was sent to win it
 unfoldable pub evidence_doc : Option (List ℕ) → Doc
@@ -20,7 +20,7 @@ dispute_amount_members dispute =
     ∷ (codes "charge", Text (printed_id kind.Charge dispute.charge))
     ∷ (codes "currency", Text (code_of dispute.currency))
     ∷ (codes "evidence", evidence_doc dispute.evidence)
-    ∷ (codes "payment_intent", Text (printed_id kind.Intent dispute.intent))
+    ∷ (codes "payment_intent", id_or_null kind.Intent dispute.intent)
     ∷ (codes "reason", Text (codes "fraudulent"))
     ∷ (codes "status", Text (dispute_status_text dispute.status))
     ∷ []

@@ -1,16 +1,13 @@
 -- The document of an event.
 use Rattle.std.specs.Prelude.{ℕ, ◌==◌, if◌then◌else◌, pos, false, List, [], ◌∷◌, ◌++◌, Option, None, Some, codes}
 use Rattle.ph_base.specs.declared.ids.Kind.TheVariants as kind
-use Rattle.ph_rows.specs.declared.events.Event.{Event}
-use Rattle.ph_rows.specs.Words.{event_text}
+use Rattle.ph_items.specs.declared.events.Event.{Event}
+use Rattle.ph_items.specs.Accounts.{platform}
+use Rattle.ph_items.specs.Words.{event_text}
 use Rattle.ph_json.specs.declared.doc.Doc.{Doc}
 use Rattle.ph_json.specs.declared.doc.Doc.TheVariants.{Null, Truth, Number, Text, Object}
 use Rattle.ph_json.specs.Values.{text_or_null, member_if}
 use Rattle.ph_views.specs.Values.{moment_doc, printed_id}
-
--- the number of the platform's own account
-abbrev pub platform : ℕ
-platform = 1
 
 -- the account that an event of a connected account names; an event of the platform names none
 abbrev pub connected_doc : ℕ → Option Doc

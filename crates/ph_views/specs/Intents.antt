@@ -2,13 +2,13 @@
 use Rattle.std.specs.Prelude.{ℕ, pos, false, List, [], ◌∷◌, ◌++◌, Option, None, Some, option_map, codes}
 use Rattle.ph_base.specs.declared.ids.Kind.TheVariants as kind
 use Rattle.ph_money.specs.Currencies.{code_of}
-use Rattle.ph_rows.specs.declared.intents.Intent.{Intent}
-use Rattle.ph_rows.specs.declared.intents.IntentStatus.{IntentStatus}
-use Rattle.ph_rows.specs.declared.intents.IntentStatus.TheVariants as status
-use Rattle.ph_rows.specs.declared.intents.PaymentError.{PaymentError}
-use Rattle.ph_rows.specs.declared.intents.PaymentError.TheVariants as payment_error
-use Rattle.ph_rows.specs.Words.{status_text, capture_method_text, cancellation_reason_text}
-use Rattle.ph_rows.specs.Weights.{method_text}
+use Rattle.ph_items.specs.declared.intents.Intent.{Intent}
+use Rattle.ph_items.specs.declared.intents.IntentStatus.{IntentStatus}
+use Rattle.ph_items.specs.declared.intents.IntentStatus.TheVariants as status
+use Rattle.ph_items.specs.declared.intents.PaymentError.{PaymentError}
+use Rattle.ph_items.specs.declared.intents.PaymentError.TheVariants as payment_error
+use Rattle.ph_items.specs.Words.{status_text, capture_method_text, cancellation_reason_text}
+use Rattle.ph_items.specs.Weights.{method_text}
 use Rattle.ph_json.specs.declared.doc.Doc.{Doc}
 use Rattle.ph_json.specs.declared.doc.Doc.TheVariants.{Null, Truth, Number, Text, Object}
 use Rattle.ph_json.specs.Values.{text_or_null}

@@ -1,8 +1,8 @@
 -- The document of a version of an object, over the rows of a history.
 use Rattle.std.specs.Prelude.{ℕ, ◌-◌, List, take, Option, None, Some}
 use Rattle.ph_rows.specs.declared.rows.Row.{Row}
-use Rattle.ph_rows.specs.declared.items.Item.{Item}
-use Rattle.ph_rows.specs.declared.items.Item.TheVariants as item
+use Rattle.ph_items.specs.declared.items.Item.{Item}
+use Rattle.ph_items.specs.declared.items.Item.TheVariants as item
 use Rattle.ph_rows.specs.Rows.{row_at, latest_of}
 use Rattle.ph_json.specs.declared.doc.Doc.{Doc}
 use Rattle.ph_json.specs.declared.doc.Doc.TheVariants.{Null}

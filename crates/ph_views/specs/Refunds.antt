@@ -2,12 +2,12 @@
 use Rattle.std.specs.Prelude.{ℕ, pos, List, [], ◌∷◌, ◌++◌, option_map, codes}
 use Rattle.ph_base.specs.declared.ids.Kind.TheVariants as kind
 use Rattle.ph_money.specs.Currencies.{code_of}
-use Rattle.ph_rows.specs.declared.refunds.Refund.{Refund}
-use Rattle.ph_rows.specs.Words.{refund_reason_text}
+use Rattle.ph_items.specs.declared.refunds.Refund.{Refund}
+use Rattle.ph_items.specs.Words.{refund_reason_text}
 use Rattle.ph_json.specs.declared.doc.Doc.{Doc}
 use Rattle.ph_json.specs.declared.doc.Doc.TheVariants.{Null, Number, Text, Object}
 use Rattle.ph_json.specs.Values.{text_or_null}
-use Rattle.ph_views.specs.Values.{moment_doc, printed_id, metadata_doc}
+use Rattle.ph_views.specs.Values.{moment_doc, printed_id, id_or_null, metadata_doc}
 
 -- how much of which charge, and why; no transfers are reversed yet
 unfoldable pub refund_amount_members : Refund → List (List ℕ × Doc)
@@ -16,7 +16,7 @@ refund_amount_members refund =
     ∷ (codes "balance_transaction", Text (printed_id kind.Txn refund.transaction))
     ∷ (codes "charge", Text (printed_id kind.Charge refund.charge))
     ∷ (codes "currency", Text (code_of refund.currency))
-    ∷ (codes "payment_intent", Text (printed_id kind.Intent refund.intent))
+    ∷ (codes "payment_intent", id_or_null kind.Intent refund.intent)
     ∷ (codes "reason", text_or_null (option_map refund_reason_text refund.reason))
     ∷ (codes "transfer_reversal", Null)
     ∷ []

@@ -2,11 +2,11 @@
 use Rattle.std.specs.Prelude.{ℕ, true, if◌then◌else◌, List, [], ◌∷◌, ◌++◌, codes}
 use Rattle.ph_base.specs.declared.ids.Kind.TheVariants as kind
 use Rattle.ph_money.specs.Currencies.{code_of}
-use Rattle.ph_rows.specs.declared.transactions.Txn.{Txn}
-use Rattle.ph_rows.specs.declared.transactions.TxnSource.{TxnSource}
-use Rattle.ph_rows.specs.Balances.{counts, movement_by}
-use Rattle.ph_rows.specs.Transactions.{net_amount, source_kind, source_number}
-use Rattle.ph_rows.specs.Words.{txn_type_text}
+use Rattle.ph_items.specs.declared.transactions.Txn.{Txn}
+use Rattle.ph_items.specs.declared.transactions.TxnSource.{TxnSource}
+use Rattle.ph_items.specs.Movements.{counts, movement_by}
+use Rattle.ph_items.specs.Transactions.{net_amount, source_kind, source_number}
+use Rattle.ph_items.specs.Words.{txn_type_text}
 use Rattle.ph_json.specs.declared.doc.Doc.{Doc}
 use Rattle.ph_json.specs.declared.doc.Doc.TheVariants.{Number, Text, Object}
 use Rattle.ph_views.specs.Values.{moment_doc, printed_id}

@@ -3,7 +3,7 @@ use Rattle.std.specs.Prelude.{ℕ, ◌-◌, ◌^◌, min, pos, List, map, ◌++�
 use Rattle.ph_base.specs.declared.ids.Kind.{Kind}
 use Rattle.ph_base.specs.Ids.{prefix_of}
 use Rattle.ph_base.specs.Numbers.{padded}
-use Rattle.ph_rows.specs.declared.metadata_pairs.MetadataPair.{MetadataPair}
+use Rattle.ph_items.specs.declared.metadata_pairs.MetadataPair.{MetadataPair}
 use Rattle.ph_json.specs.declared.doc.Doc.{Doc}
 use Rattle.ph_json.specs.declared.doc.Doc.TheVariants.{Null, Number, Text, Object}
 

@@ -1,11 +1,11 @@
 //! Accounts.
 ghost use Rattle.std.specs.Prelude.{◌≡◌, IfOk};
-ghost use Rattle.ph_views.specs.Accounts.{account_doc, account_type_text, holder_members, standing_members};
+ghost use Rattle.ph_views.specs.Accounts.{account_doc, holder_members, standing_members};
 
 use crate::values::{put_id, put_metadata, put_moment};
 use ph_base::{Kind, NoMemory};
+use ph_items::Account;
 use ph_json::{Doc, Members};
-use ph_rows::{Account, AccountType};
 use std::alloc::Global;
 
 /// The document of a version of an account that was created at a moment and has a number.
@@ -31,7 +31,7 @@ fn holder(alloc: Global, account: &Account) -> Result<Members, NoMemory>
     let mut members = Members::new(alloc);
     members.text_or_null("email", &account.email)?;
     put_metadata(alloc, &mut members, "metadata", &account.metadata)?;
-    members.text("type", type_text(account.sort))?;
+    members.text("type", account.sort.text())?;
     Ok(members)
 }
 
@@ -47,15 +47,4 @@ fn standing(alloc: Global, created: u64, object: u64) -> Result<Members, NoMemor
     members.word("object", "account")?;
     members.truth("payouts_enabled", true)?;
     Ok(members)
-}
-
-// The word of an account's type.
-fn type_text(sort: AccountType) -> &'static [u8]
-    ensures { result.now ≡ account_type_text sort }
-{
-    match sort {
-        AccountType::Standard => b"standard",
-        AccountType::Express => b"express",
-        AccountType::Custom => b"custom",
-    }
 }

@@ -7,8 +7,8 @@ ghost use Rattle.ph_json.specs.Values.{text_or_null};
 use crate::values::{put_amount, put_id, put_id_or_null, put_metadata, put_method, put_moment};
 use ph_base::{Kind, NoMemory};
 use ph_errors::Code;
+use ph_items::{Capture, Charge, ChargeStatus};
 use ph_json::{Doc, Members};
-use ph_rows::{Capture, Charge, ChargeStatus};
 use std::alloc::Global;
 
 /// The document of a version of a charge that was created at a moment and has a number.
@@ -51,7 +51,7 @@ fn names(alloc: Global, created: u64, object: u64, charge: &Charge) -> Result<Me
     let mut members = Members::new(alloc);
     put_moment(&mut members, "created", created)?;
     members.text_or_null("description", &charge.description)?;
-    put_id(&mut members, "id", Kind::Charge, object)?;
+    put_id(&mut members, "id", charge.sort.kind(), object)?;
     members.truth("livemode", false)?;
     put_metadata(alloc, &mut members, "metadata", &charge.metadata)?;
     members.word("object", "charge")?;
@@ -85,9 +85,19 @@ fn payment(alloc: Global, charge: &Charge) -> Result<Members, NoMemory>
     ensures { IfOk result (λ members. members ≡ charge_payment_members charge.now) }
 {
     let mut members = Members::new(alloc);
-    put_id(&mut members, "payment_intent", Kind::Intent, charge.intent)?;
+    put_id_or_null(
+        &mut members,
+        "payment_intent",
+        Kind::Intent,
+        charge.sort.intent(),
+    )?;
     put_method(&mut members, "payment_method", &charge.payment_method)?;
-    members.null("source_transfer")?;
+    put_id_or_null(
+        &mut members,
+        "source_transfer",
+        Kind::Transfer,
+        charge.sort.transfer(),
+    )?;
     members.null("transfer")?;
     members.text_or_null("transfer_group", &charge.transfer_group)?;
     Ok(members)

@@ -2,10 +2,10 @@
 ghost use Rattle.std.specs.Prelude.{◌≡◌, [], ◌∷◌, ◌++◌, IfOk, OnOk, OnErr, codes};
 ghost use Rattle.ph_views.specs.Disputes.{dispute_doc, dispute_amount_members, dispute_name_members, evidence_doc};
 
-use crate::values::{put_amount, put_id, put_moment};
+use crate::values::{put_amount, put_id, put_id_or_null, put_moment};
 use ph_base::{Bytes, Kind, NoMemory};
+use ph_items::Dispute;
 use ph_json::{Doc, Members};
-use ph_rows::Dispute;
 use std::alloc::Global;
 
 /// The document of a version of a dispute that was created at a moment and has a number.
@@ -33,7 +33,7 @@ fn amounts(alloc: Global, dispute: &Dispute) -> Result<Members, NoMemory>
     put_id(&mut members, "charge", Kind::Charge, dispute.charge)?;
     members.text("currency", dispute.currency.code())?;
     put_evidence(alloc, &mut members, "evidence", &dispute.evidence)?;
-    put_id(&mut members, "payment_intent", Kind::Intent, dispute.intent)?;
+    put_id_or_null(&mut members, "payment_intent", Kind::Intent, dispute.intent)?;
     members.word("reason", "fraudulent")?;
     members.text("status", dispute.status.text())?;
     Ok(members)

@@ -5,12 +5,9 @@ ghost use Rattle.ph_views.specs.Events.{event_doc, connected_doc, request_doc, o
 
 use crate::values::{put_id, put_moment};
 use ph_base::{Bytes, Kind, NoMemory};
+use ph_items::{Event, PLATFORM};
 use ph_json::{Doc, Members};
-use ph_rows::Event;
 use std::alloc::Global;
-
-// The number of the platform's own account.
-const PLATFORM: u64 = 1;
 
 /// The document of an event that happened at a moment, has a number, is of an account and tells of this object.
 #[tactic(auto, unfolding(crate::specs::Events::event_doc))]

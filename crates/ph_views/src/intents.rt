@@ -1,6 +1,6 @@
 //! Payment intents.
 ghost use Rattle.std.specs.Prelude.{◌≡◌, [], ◌∷◌, ◌++◌, IfOk, OnOk, OnErr, option_map, codes};
-ghost use Rattle.ph_rows.specs.Words.{cancellation_reason_text};
+ghost use Rattle.ph_items.specs.Words.{cancellation_reason_text};
 ghost use Rattle.ph_json.specs.Values.{text_or_null};
 ghost use Rattle.ph_views.specs.Intents.{intent_doc, amount_members, name_members, progress_members, last_error_doc, next_action_doc, authenticate_doc, client_secret_of};
 
@@ -9,8 +9,8 @@ use crate::values::{
 };
 use ph_base::{Bytes, Kind, NoMemory};
 use ph_errors::{ApiError, error_doc};
+use ph_items::{CancellationReason, Intent, IntentStatus, PaymentError};
 use ph_json::{Doc, Members};
-use ph_rows::{CancellationReason, Intent, IntentStatus, PaymentError};
 use std::alloc::Global;
 
 /// The document of a version of a payment intent that was created at a moment and has a number.

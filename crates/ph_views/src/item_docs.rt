@@ -11,8 +11,9 @@ use crate::refunds::refund_doc;
 use crate::subjects::{created, version_before};
 use crate::transactions::txn_doc;
 use ph_base::{Bytes, NoMemory};
+use ph_items::Item;
 use ph_json::{Doc, text};
-use ph_rows::{Item, Row, View};
+use ph_rows::{Row, View};
 use std::alloc::Global;
 
 /// The document of a version of an object, as the API prints it: the version as the row has it, with the moment

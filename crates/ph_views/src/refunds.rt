@@ -1,13 +1,13 @@
 //! Refunds.
 ghost use Rattle.std.specs.Prelude.{◌≡◌, [], ◌∷◌, ◌++◌, IfOk, OnOk, OnErr, option_map, codes};
-ghost use Rattle.ph_rows.specs.Words.{refund_reason_text};
+ghost use Rattle.ph_items.specs.Words.{refund_reason_text};
 ghost use Rattle.ph_json.specs.Values.{text_or_null};
 ghost use Rattle.ph_views.specs.Refunds.{refund_doc, refund_amount_members, refund_name_members};
 
-use crate::values::{put_amount, put_id, put_metadata, put_moment};
+use crate::values::{put_amount, put_id, put_id_or_null, put_metadata, put_moment};
 use ph_base::{Kind, NoMemory};
+use ph_items::{Refund, RefundReason};
 use ph_json::{Doc, Members};
-use ph_rows::{Refund, RefundReason};
 use std::alloc::Global;
 
 /// The document of a refund that was created at a moment and has a number.
@@ -40,7 +40,7 @@ fn amounts(alloc: Global, refund: &Refund) -> Result<Members, NoMemory>
     )?;
     put_id(&mut members, "charge", Kind::Charge, refund.charge)?;
     members.text("currency", refund.currency.code())?;
-    put_id(&mut members, "payment_intent", Kind::Intent, refund.intent)?;
+    put_id_or_null(&mut members, "payment_intent", Kind::Intent, refund.intent)?;
     put_reason(&mut members, "reason", refund.reason)?;
     members.null("transfer_reversal")?;
     Ok(members)

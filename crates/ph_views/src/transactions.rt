@@ -5,8 +5,8 @@ ghost use Rattle.ph_views.specs.Transactions.{txn_doc, txn_amount_members, txn_n
 
 use crate::values::{put_id, put_moment};
 use ph_base::{Kind, NoMemory};
+use ph_items::{Txn, TxnSource};
 use ph_json::{Doc, Members};
-use ph_rows::{Txn, TxnSource};
 use std::alloc::Global;
 
 /// The document, at a time, of a transaction that was created at a moment and has a number.

@@ -1,14 +1,14 @@
 //! The values that the documents of objects share, each put in one step: a step that can fail lets go of the members
 //! that were put before it.
 ghost use Rattle.std.specs.Prelude.{◌≡◌, [], ◌∷◌, ◌++◌, pos, min, ◌-◌, IfOk, OnOk, OnErr};
-ghost use Rattle.ph_rows.specs.Weights.{method_text};
+ghost use Rattle.ph_items.specs.Weights.{method_text};
 ghost use Rattle.ph_json.specs.Values.{text_or_null};
 ghost use Rattle.ph_views.specs.Values.{moment_doc, printed_id, id_or_null, metadata_doc};
 
 use ph_base::{Id, IdText, Kind, NoMemory, print_id};
+use ph_items::{Metadata, PaymentMethod};
 use ph_json::{Doc, Members};
 use ph_money::Amount;
-use ph_rows::{Metadata, PaymentMethod};
 use std::alloc::Global;
 
 const NUMBERS: u64 = 10_000_000_000_000_000;

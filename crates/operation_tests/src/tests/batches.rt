@@ -2,7 +2,8 @@
 
 use super::rows::{OPENED, batch_after, charge_in, intent_in, paid, place_of};
 use ph_base::{Bytes, NoMemory};
-use ph_rows::{Batch, EventKind, Item, Row, version_with, weight_with_rows};
+use ph_items::{EventKind, Item};
+use ph_rows::{Batch, Row, version_with, weight_with_rows};
 use std::alloc::Global;
 use std::process::Abort;
 use std::test::Fail;

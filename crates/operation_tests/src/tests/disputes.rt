@@ -3,7 +3,8 @@
 use super::rows::{batch_after, charge_in, enter, intent_in, paid};
 use ph_base::{Bytes, Method, NoMemory};
 use ph_disputes::{open, open_due};
-use ph_rows::{Charge, EventKind, Item, ListView, PaymentMethod, Row, View};
+use ph_items::{Charge, EventKind, Item, PaymentMethod};
+use ph_rows::{ListView, Row, View};
 use std::alloc::Global;
 use std::process::Abort;
 use std::test::Fail;

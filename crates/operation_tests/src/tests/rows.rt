@@ -6,7 +6,8 @@ use ph_disputes::close;
 use ph_errors::Refusal;
 use ph_http::Raw;
 use ph_intents::{Begin, begin, cancel, capture, create, fail_authentication, settle, update};
-use ph_rows::{Account, AccountType, Batch, Charge, Intent, Item, ListView, Metadata, Row, View};
+use ph_items::{Account, AccountType, Charge, Intent, Item, Metadata};
+use ph_rows::{Batch, ListView, Row, View};
 use std::alloc::Global;
 use std::process::Abort;
 

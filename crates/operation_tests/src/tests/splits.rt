@@ -5,7 +5,8 @@ use ph_base::NoMemory;
 use ph_charges::split;
 use ph_ledger::Ledger;
 use ph_money::{Amount, Currency};
-use ph_rows::{ListView, Row, Txn, TxnSource, TxnType, View};
+use ph_items::{Txn, TxnSource, TxnType};
+use ph_rows::{ListView, Row, View};
 use std::alloc::Global;
 use std::process::Abort;
 use std::test::Fail;
@@ -13,7 +14,7 @@ use std::test::Fail;
 // The rows that a split of 500 of a charge adds.
 fn split_rows(alloc: Global, view: &ListView, charge: u64) -> Result<Vec<Row>, NoMemory> {
     let mut batch = batch_after(alloc, view);
-    split(view, charge, Amount::new(500), &mut batch)?;
+    split(alloc, view, charge, Amount::new(500), &mut batch)?;
     batch.into_rows(alloc, None)
 }
 

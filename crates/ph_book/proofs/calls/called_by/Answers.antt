@@ -1,7 +1,7 @@
 use Rattle.std.proofs.Common.{◌≡◌, sym, ap, ◌∙◌, subst, IfOk}
 use Rattle.ph_json.specs.declared.doc.Doc.{Doc}
 use Rattle.ph_rows.specs.Batches.{BatchState}
-use Rattle.ph_calls.specs.Outcomes.{Adds}
+use Rattle.ph_facts.specs.Outcomes.{Adds}
 use Rattle.ph_book.specs.Called.{IsCalled}
 use Rattle.ph_book.specs.Calls.{Upshot, Makes, Shows, Sets, called_at}
 use Rattle.ph_book.specs.History.{Effect, call_effect, shown_effect}

@@ -1,0 +1,13 @@
+pub mod AmountLemmas
+pub mod BatchLemmas
+pub mod EnterLemmas
+pub mod FollowLemmas
+pub mod FoundLemmas
+pub mod HeldLemmas
+pub mod LawLemmas
+pub mod OrderLemmas
+pub mod OriginLemmas
+pub mod PresentLemmas
+pub mod SoundLemmas
+pub mod TallyLemmas
+pub mod UnderwayLemmas

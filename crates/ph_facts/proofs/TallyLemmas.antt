@@ -1,0 +1,175 @@
+-- Amounts of objects, as rows are added: one more row, rows of other objects, a further version.
+use Rattle.std.specs.Prelude.{slice_get, is_some, ◌==◌, ◌&&◌, ◌||◌}
+use Rattle.std.proofs.Common.{◌≡◌, ℕ, zero, suc, ◌+◌, ◌-◌, ◌≤◌, ◌<◌, ◌⊎◌, inl, inr, Bool, true, false, eqb, List, [], ◌∷◌, ◌++◌, Option, None, Some, length, refl, sym, ap, ◌∙◌, subst, arith}
+use Rattle.std.specs.List.{list_any}
+use Rattle.std.proofs.lemmas.Bool.{cond-false, eq-eqb, eqb-false, eqb-true, false≢true, ne_eqb}
+use Rattle.std.proofs.lemmas.List.{append-nil, append_assoc}
+use Rattle.ph_items.specs.declared.items.Item.{Item}
+use Rattle.ph_rows.specs.declared.rows.Row.{Row}
+use Rattle.ph_rows.specs.Rows.{latest_of}
+use Rattle.ph_rows.specs.Views.{ViewState}
+use Rattle.ph_rows.proofs.RowLemmas.{both_fail, first_fails, found_among, is_row_at, latest_from, second_fails}
+use Rattle.ph_facts.specs.Order.{IsInOrder}
+use Rattle.ph_facts.specs.Origins.{HasOrigins, origins_of}
+use Rattle.ph_facts.specs.Tallies.{Addition, SaysSum, SaySums, Tally, given, sum_for}
+
+-- amounts are added up as sums are: nothing changes nothing, and it doesn't matter where one begins
+pub record IsSum (A : Type 0) (tally : Tally A) : Type 0 where
+  pub front : (a : A) → tally.plus tally.nothing a ≡ a
+  pub back : (a : A) → tally.plus a tally.nothing ≡ a
+  pub grouped : (a b c : A) → tally.plus (tally.plus a b) c ≡ tally.plus a (tally.plus b c)
+
+-- the amounts of rows, and of more behind them
+pub sum_append : {A : Type 0} (tally : Tally A) (object : ℕ) (rows more : List Row) → IsSum A tally
+    → sum_for tally object (rows ++ more) ≡ tally.plus (sum_for tally object rows) (sum_for tally object more)
+sum_append tally object [] more sum = sym (sum.front (sum_for tally object more))
+sum_append tally object (row ∷ rows) more sum =
+    ap (tally.plus (given tally.nothing object (tally.adds row.item))) (sum_append tally object rows more sum)
+    ∙ sym (sum.grouped (given tally.nothing object (tally.adds row.item)) (sum_for tally object rows) (sum_for tally object more))
+
+-- a part goes to an object
+abbrev pub goes_to : {A : Type 0} → ℕ → Option (Addition A) → Bool
+goes_to object None = false
+goes_to object (Some part) = part.object == object
+
+-- a row has to do with the amount of an object: it adds to it, or is a version of the object that says it
+abbrev pub touches : {A : Type 0} → Tally A → ℕ → Row → Bool
+touches tally object row = goes_to object (tally.adds row.item) || (is_some (tally.said row.item) && row.object == object)
+
+-- a part that goes elsewhere gives nothing
+given_elsewhere : {A : Type 0} (nothing : A) (object : ℕ) (part : Option (Addition A)) → goes_to object part ≡ false
+    → given nothing object part ≡ nothing
+given_elsewhere nothing object None e = refl
+given_elsewhere nothing object (Some part) e = cond-false (part.object == object) part.amount nothing e
+
+-- rows that have nothing to do with an object add nothing to it
+pub sum_apart : {A : Type 0} (tally : Tally A) (object : ℕ) (rows : List Row) → IsSum A tally
+    → list_any (touches tally object) rows ≡ false → sum_for tally object rows ≡ tally.nothing
+sum_apart tally object [] sum apart = refl
+sum_apart tally object (row ∷ rows) sum apart =
+    let here = first_fails (touches tally object row) (list_any (touches tally object) rows) apart in
+    let there = second_fails (touches tally object row) (list_any (touches tally object) rows) apart in
+    ap (λ first. tally.plus first (sum_for tally object rows))
+    (given_elsewhere tally.nothing object (tally.adds row.item)
+    (first_fails (goes_to object (tally.adds row.item)) (is_some (tally.said row.item) && row.object == object) here))
+    ∙ sum.front (sum_for tally object rows) ∙ sum_apart tally object rows sum there
+
+-- of two tests that don't both pass, the first where the second does
+first_of_both : (a b : Bool) → (a && b) ≡ false → b ≡ true → a ≡ false
+first_of_both true b e is = absurd (false≢true (sym e ∙ is))
+first_of_both false b e is = refl
+
+-- what says nothing says no amount
+says_none : {A : Type 0} (said : Option A) (amount : A) → is_some said ≡ false → said ≡ Some amount → ⊥
+says_none None amount e is = absurd (cc)
+says_none (Some said) amount e is = false≢true (sym e)
+
+-- none of some rows that have nothing to do with an object is a version of it that says its amount
+none_says : {A : Type 0} (tally : Tally A) (object : ℕ) (rows : List Row) (i : ℕ) (row : Row) (amount : A)
+    → list_any (touches tally object) rows ≡ false → slice_get rows i ≡ Some row → row.object ≡ object
+    → tally.said row.item ≡ Some amount → ⊥
+none_says tally object [] i row amount apart e mine said = absurd (cc)
+none_says tally object (x ∷ rows) zero row amount apart e mine said =
+    let same : x ≡ row = cc in
+    let here : touches tally object row ≡ false =
+    subst (λ (r : Row). touches tally object r ≡ false) same (first_fails (touches tally object x) (list_any (touches tally object) rows) apart) in
+    let version = second_fails (goes_to object (tally.adds row.item)) (is_some (tally.said row.item) && row.object == object) here in
+    says_none (tally.said row.item) amount
+    (first_of_both (is_some (tally.said row.item)) (row.object == object) version (eq-eqb row.object object mine)) said
+none_says tally object (x ∷ rows) (suc i) row amount apart e mine said =
+    none_says tally object rows i row amount (second_fails (touches tally object x) (list_any (touches tally object) rows) apart) e mine said
+
+-- an object says its amount still with rows that have nothing to do with it
+pub sum_stays : {A : Type 0} (tally : Tally A) (object : ℕ) (rows more : List Row) → IsSum A tally
+    → list_any (touches tally object) more ≡ false → SaysSum tally object rows → SaysSum tally object (rows ++ more)
+sum_stays tally object rows more sum apart says row amount e said =
+    elim (found_among object (latest_of object rows) more row (sym (latest_from object None rows more) ∙ e)) [
+      | inl old ↦ says row amount old said ∙ sym (sum.back (sum_for tally object rows))
+          ∙ ap (tally.plus (sum_for tally object rows)) (sym (sum_apart tally object more sum apart))
+          ∙ sym (sum_append tally object rows more sum)
+      | inr new ↦ absurd (none_says tally object more new.0 row amount apart new.1 new.2 said)
+    ]
+
+-- an object says its amount where its present version does
+pub sum_known : {A : Type 0} (tally : Tally A) (object : ℕ) (rows more : List Row) (last : Row) (amount : A) → IsSum A tally
+    → latest_of object (rows ++ more) ≡ Some last → tally.said last.item ≡ Some amount
+    → amount ≡ tally.plus (sum_for tally object rows) (sum_for tally object more) → SaysSum tally object (rows ++ more)
+sum_known tally object rows more last amount sum latest is right row other e said =
+    let same : last ≡ row = (let both : Some last ≡ Some row = sym latest ∙ e in cc) in
+    let equal : amount ≡ other = (let both : Some amount ≡ Some other = sym is ∙ ap (λ (r : Row). tally.said r.item) same ∙ said in cc) in
+    sym equal ∙ right ∙ sym (sum_append tally object rows more sum)
+
+-- and where its present version says nothing of it
+pub sum_unsaid : {A : Type 0} (tally : Tally A) (object : ℕ) (rows : List Row) (last : Row)
+    → latest_of object rows ≡ Some last → tally.said last.item ≡ None → SaysSum tally object rows
+sum_unsaid tally object rows last latest none row other e said =
+    let same : last ≡ row = (let both : Some last ≡ Some row = sym latest ∙ e in cc) in
+    let clash : Some other ≡ None = sym said ∙ ap (λ (r : Row). tally.said r.item) (sym same) ∙ none in absurd (cc)
+
+-- all objects say their amounts still where one does, and the rows have nothing to do with any other
+pub sums_of_one : {A : Type 0} (tally : Tally A) (rows more : List Row) (object : ℕ) → IsSum A tally → SaySums tally rows
+    → SaysSum tally object (rows ++ more) → ((other : ℕ) → (other ≡ object → ⊥) → list_any (touches tally other) more ≡ false)
+    → SaySums tally (rows ++ more)
+sums_of_one tally rows more object sum says mine apart other = at (eqb other object) refl
+  where
+    at : (b : Bool) → eqb other object ≡ b → SaysSum tally other (rows ++ more)
+    at true e = subst (λ (k : ℕ). SaysSum tally k (rows ++ more)) (sym (eqb-true other object e)) mine
+    at false e = sum_stays tally other rows more sum (apart other (eqb-false other object e)) (says other)
+
+-- a row has to do with amounts: it adds to one, or says one
+abbrev pub speaks : {A : Type 0} → Tally A → Row → Bool
+speaks tally row = is_some (tally.adds row.item) || is_some (tally.said row.item)
+
+-- what adds nothing goes to no object
+goes_nowhere : {A : Type 0} (object : ℕ) (part : Option (Addition A)) → is_some part ≡ false → goes_to object part ≡ false
+goes_nowhere object None e = refl
+goes_nowhere object (Some part) e = absurd (false≢true (sym e))
+
+-- rows that have to do with no amounts have nothing to do with any object's
+pub touch_none : {A : Type 0} (tally : Tally A) (object : ℕ) (more : List Row) → list_any (speaks tally) more ≡ false
+    → list_any (touches tally object) more ≡ false
+touch_none tally object [] none = refl
+touch_none tally object (row ∷ more) none =
+    let here = first_fails (speaks tally row) (list_any (speaks tally) more) none in
+    both_fail (touches tally object row) (list_any (touches tally object) more)
+    (both_fail (goes_to object (tally.adds row.item)) (is_some (tally.said row.item) && row.object == object)
+    (goes_nowhere object (tally.adds row.item) (first_fails (is_some (tally.adds row.item)) (is_some (tally.said row.item)) here))
+    (ap (λ (b : Bool). b && row.object == object) (second_fails (is_some (tally.adds row.item)) (is_some (tally.said row.item)) here)))
+    (touch_none tally object more (second_fails (speaks tally row) (list_any (speaks tally) more) none))
+
+-- all objects say their amounts still with rows that have to do with none
+pub sums_stay : {A : Type 0} (tally : Tally A) (rows more : List Row) → IsSum A tally → list_any (speaks tally) more ≡ false
+    → SaySums tally rows → SaySums tally (rows ++ more)
+sums_stay tally rows more sum none says object = sum_stays tally object rows more sum (touch_none tally object more none) (says object)
+
+-- what an item adds, it adds to an object that it names, or to none that is later than the rows where those have begun
+abbrev pub AddsToNamed : {A : Type 0} → Tally A → Type 0
+AddsToNamed {A} tally = (rows : List Row) (o : Item) (part : Addition A) → tally.adds o ≡ Some part → HasOrigins rows (origins_of o)
+    → part.object ≤ length rows
+
+-- rows of which none adds anything to an object
+sum_of_none : {A : Type 0} (tally : Tally A) (object : ℕ) (rows : List Row) → IsSum A tally
+    → ((i : ℕ) (row : Row) → slice_get rows i ≡ Some row → given tally.nothing object (tally.adds row.item) ≡ tally.nothing)
+    → sum_for tally object rows ≡ tally.nothing
+sum_of_none tally object [] sum none = refl
+sum_of_none tally object (row ∷ rows) sum none =
+    ap (λ first. tally.plus first (sum_for tally object rows)) (none 0 row refl)
+    ∙ sum.front (sum_for tally object rows) ∙ sum_of_none tally object rows sum (λ i r e. none (suc i) r e)
+
+-- nothing was added yet to an object that is made after the rows
+pub sum_later : {A : Type 0} (tally : Tally A) (state : ViewState) (object : ℕ) → IsSum A tally → AddsToNamed tally
+    → IsInOrder state → length state.rows < object → sum_for tally object state.rows ≡ tally.nothing
+sum_later {A} tally state object sum named order later =
+    sum_of_none tally object state.rows sum (λ i row e. given_later (tally.adds row.item) (λ part is. named state.rows row.item part is (there i row e)))
+  where
+    given_later : (part : Option (Addition A)) → ((some : Addition A) → part ≡ Some some → some.object ≤ length state.rows)
+        → given tally.nothing object part ≡ tally.nothing
+    given_later None within = refl
+    given_later (Some part) within =
+        let before : part.object ≤ length state.rows = within part refl in
+        cond-false (part.object == object) part.amount tally.nothing (ne_eqb part.object object (λ same. omega arith))
+
+    there : (i : ℕ) (row : Row) → slice_get state.rows i ≡ Some row → HasOrigins state.rows (origins_of row.item)
+    there i row e =
+        let before : i ≡ (i + 1) - 1 = omega arith in
+        order.origins (i + 1) row (is_row_at (i + 1) state.rows row (λ z. omega arith) (subst (λ j. slice_get state.rows j ≡ Some row) before e))

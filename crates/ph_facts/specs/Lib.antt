@@ -1,0 +1,9 @@
+pub mod Amounts
+pub mod Entering
+pub mod Held
+pub mod Keeps
+pub mod Order
+pub mod Origins
+pub mod Outcomes
+pub mod Sound
+pub mod Tallies

@@ -1,0 +1,11 @@
+pub mod Accounts
+pub mod Charges
+pub mod Clocks
+pub mod Disputes
+pub mod Items
+pub mod Kinds
+pub mod Metadata
+pub mod Movements
+pub mod Transactions
+pub mod Weights
+pub mod Words

@@ -1,0 +1,93 @@
+//! Balance transactions.
+ghost use Rattle.std.specs.Prelude.{◌≡◌};
+
+use ph_base::Kind;
+use ph_money::{Currency, SignedAmount};
+
+/// What a transaction is made for, as Stripe's `type` names it.
+#[derive(Clone, Copy, Debug, PartialEq, Eq)]
+pub enum TxnType {
+    Charge,
+    Refund,
+    /// What a dispute takes, and gives back where it is won.
+    Adjustment,
+}
+
+impl TxnType {
+    ghost use Rattle.std.specs.Prelude.{◌≡◌};
+    ghost use Rattle.ph_items.specs.Words.{txn_type_text};
+
+    /// The word of Stripe's `type`.
+    pub fn text(self) -> &'static [u8]
+        ensures { result.now ≡ txn_type_text self }
+    {
+        match self {
+            TxnType::Charge => b"charge",
+            TxnType::Refund => b"refund",
+            TxnType::Adjustment => b"adjustment",
+        }
+    }
+}
+
+/// The object that a transaction comes from, with its number.
+#[derive(Clone, Copy, Debug, PartialEq, Eq)]
+pub enum TxnSource {
+    Charge(u64),
+    Refund(u64),
+    Dispute(u64),
+}
+
+impl TxnSource {
+    ghost use Rattle.std.specs.Prelude.{◌≡◌};
+    ghost use Rattle.ph_items.specs.Transactions.{source_kind, source_number};
+
+    /// The kind of the object.
+    pub fn kind(self) -> Kind
+        ensures { result ≡ source_kind self }
+    {
+        match self {
+            TxnSource::Charge(_) => Kind::Charge,
+            TxnSource::Refund(_) => Kind::Refund,
+            TxnSource::Dispute(_) => Kind::Dispute,
+        }
+    }
+
+    /// The number of the object.
+    pub fn number(self) -> u64
+        ensures { result ≡ source_number self }
+    {
+        match self {
+            TxnSource::Charge(number) | TxnSource::Refund(number) | TxnSource::Dispute(number) => {
+                number
+            }
+        }
+    }
+}
+
+/// A balance transaction: what moves the balance of its account. It is made once and never changes. Amounts are
+/// in minor units of its currency.
+#[derive(Clone, Copy, Debug, PartialEq, Eq)]
+pub struct Txn {
+    /// The `type` of the transaction.
+    pub sort: TxnType,
+    /// What it gives to the balance; what it takes is below 0.
+    pub amount: SignedAmount,
+    /// What is kept of the amount.
+    pub fee: SignedAmount,
+    pub currency: Currency,
+    /// The moment from which it counts as available, in seconds since 1970.
+    pub available_on: u64,
+    pub source: TxnSource,
+}
+
+impl Txn {
+    ghost use Rattle.std.specs.Prelude.{◌≡◌};
+    ghost use Rattle.ph_items.specs.Transactions.{net_amount};
+
+    /// The amount less the fee.
+    pub fn net(&self) -> i32
+        ensures { result ≡ net_amount self.now }
+    {
+        self.amount.units() - self.fee.units()
+    }
+}
