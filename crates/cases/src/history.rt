@@ -11,8 +11,8 @@ use crate::step::{Request, Step, step_of};
 use ph_base::{Bytes, read_number};
 use ph_book::{Book, Setup};
 use ph_http::{Raw, Reply};
-use ph_money::Currency;
 use ph_items::CLOCK_LIMIT;
+use ph_money::Currency;
 use ph_rows::View;
 use std::alloc::{AllocError, Global};
 

@@ -4,8 +4,11 @@
 //! there. Bytes of a text outside `!` to `~` stand as `\xHH`, and a backslash as `\\`.
 
 use ph_base::{Bytes, Decline, Method};
+use ph_items::{
+    Account, AccountType, Attempt, AttemptState, Charge, Dispute, Event, Intent, Item, Metadata,
+    Order, PaymentError, PaymentMethod, Refund, Txn,
+};
 use ph_money::{Amount, Currency, SignedAmount};
-use ph_items::{Account, AccountType, Attempt, AttemptState, Charge, Dispute, Event, Intent, Item, Metadata, Order, PaymentError, PaymentMethod, Refund, Txn};
 use ph_rows::Row;
 use std::alloc::{AllocError, Global};
 

@@ -2,7 +2,10 @@
 
 use crate::line::{Line, said, unknown};
 use ph_base::{Bytes, NoMemory};
-use ph_items::{CancellationReason, CaptureMethod, ChargeStatus, DisputeStatus, EventKind, IntentStatus, Metadata, RefundReason, TxnType};
+use ph_items::{
+    CancellationReason, CaptureMethod, ChargeStatus, DisputeStatus, EventKind, IntentStatus,
+    Metadata, RefundReason, TxnType,
+};
 use std::alloc::Global;
 
 /// `NAME | event | TYPE` and `NAME | word | VALUE`: the word that is printed. `NAME | metadata | KEY=TEXT -KEY ..`: the

@@ -3,9 +3,9 @@
 use super::rows::{OPENED, batch_after, paid};
 use ph_base::NoMemory;
 use ph_charges::split;
+use ph_items::{Txn, TxnSource, TxnType};
 use ph_ledger::Ledger;
 use ph_money::{Amount, Currency};
-use ph_items::{Txn, TxnSource, TxnType};
 use ph_rows::{ListView, Row, View};
 use std::alloc::Global;
 use std::process::Abort;
