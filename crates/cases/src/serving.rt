@@ -34,7 +34,7 @@ struct Rules {
 
 /// Runs a case, and gives what it prints.
 pub fn run_case(alloc: Global, case: &Case<'_>) -> Result<Vec<u8>, CaseError> {
-    let rules = rules(alloc, case)?;
+    let rules = read_rules(alloc, case)?;
     let mut printed = format!(in alloc; "== {}\n", case.name())?.into_bytes();
     match rules.entries {
         Some(entries) => {
@@ -51,7 +51,7 @@ pub fn run_case(alloc: Global, case: &Case<'_>) -> Result<Vec<u8>, CaseError> {
     Ok(printed)
 }
 
-fn rules(alloc: Global, case: &Case<'_>) -> Result<Rules, CaseError> {
+fn read_rules(alloc: Global, case: &Case<'_>) -> Result<Rules, CaseError> {
     let mut rules = Rules {
         entries: Some(100),
         limit: 10,

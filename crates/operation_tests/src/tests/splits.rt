@@ -1,4 +1,5 @@
 //! Splits of charges that stand in the view alone, and a ledger.
+ghost use Rattle.std.specs.Prelude.{◌≡◌, OnOk};
 
 use super::rows::{OPENED, batch_after, paid};
 use ph_base::NoMemory;
@@ -41,23 +42,23 @@ fn splits(rt: HostRuntime) -> Result<(), Fail> {
     Ok(())
 }
 
-// The transactions of a view.
-fn posted(alloc: Global, view: &ListView) -> Result<Ledger, NoMemory> {
-    let mut ledger = Ledger::new(alloc);
-    ledger.advance(OPENED);
-    for row in view.rows() {
-        if row.item.txn().is_some() {
-            ledger.post(row)?;
-        }
+// Posts the transaction 7 of a view.
+fn post(ledger: &mut Ledger, view: &ListView) -> Result<(), NoMemory>
+    ensures time { OnOk result (ledger.new.time ≡ ledger.old.time) }
+{
+    match view.row(7) {
+        Some(row) if row.item.txn().is_some() => ledger.post(row),
+        _ => Err(NoMemory),
     }
-    Ok(ledger)
 }
 
-// A ledger that makes its own room as transactions are posted.
+// A ledger that makes its own room as a transaction is posted.
 #[test]
 fn a_ledger(rt: HostRuntime) -> Result<(), Fail> {
     let view = paid(rt.alloc(), 1, "pm_card_visa", "automatic")?;
-    let mut ledger = posted(rt.alloc(), &view)?;
+    let mut ledger = Ledger::new(rt.alloc());
+    ledger.advance(OPENED);
+    post(&mut ledger, &view)?;
     assert_eq!(rt; ledger.available(1, Currency::Usd), 0);
     assert_eq!(rt; ledger.pending(1, Currency::Usd), 1912);
     ledger.advance(OPENED + 172800);
