@@ -45,9 +45,9 @@ pub fn enter(alloc: Global, view: &mut ListView, batch: Batch) -> Result<(), NoM
     Ok(())
 }
 
-/// The call that is sent to a path with a body.
-pub fn call_of(alloc: Global, path: &str, body: &str) -> Result<Call, NoMemory> {
-    let raw = Raw {
+// A request to a path with a body.
+fn request(alloc: Global, path: &str, body: &str) -> Result<Raw, NoMemory> {
+    Ok(Raw {
         method: Bytes::from_slice(alloc, b"POST")?,
         path: Bytes::from_slice(alloc, path.as_bytes())?,
         query: None,
@@ -56,7 +56,12 @@ pub fn call_of(alloc: Global, path: &str, body: &str) -> Result<Call, NoMemory> 
         account: None,
         body: Bytes::from_slice(alloc, body.as_bytes())?,
         close: false,
-    };
+    })
+}
+
+/// The call that is sent to a path with a body.
+pub fn call_of(alloc: Global, path: &str, body: &str) -> Result<Call, NoMemory> {
+    let raw = request(alloc, path, body)?;
     match read_call(alloc, &raw) {
         Ok(call) => Ok(call),
         Err(_) => Err(NoMemory),
