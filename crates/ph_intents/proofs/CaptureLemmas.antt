@@ -1,6 +1,6 @@
 -- What a capture adds may be entered after sound rows.
 use Rattle.std.specs.Prelude.{option_and_then}
-use Rattle.std.proofs.Common.{◌≡◌, ℕ, ◌≤◌, ◌==◌, ◌||◌, false, nat_lt, [], ◌∷◌, ◌++◌, Option, None, Some, refl, sym, ap, ◌∙◌, subst, arith, codes, unwrap_or}
+use Rattle.std.proofs.Common.{◌≡◌, ℕ, ◌+◌, ◌≤◌, ◌==◌, ◌||◌, false, nat_lt, [], ◌∷◌, ◌++◌, Option, None, Some, refl, sym, ap, ◌∙◌, subst, arith, codes, unwrap_or}
 use Rattle.std.proofs.lemmas.Bool.{cond_both}
 use Rattle.std.proofs.lemmas.Bool.Decides.{nat_tests}
 use Rattle.ph_charges.specs.Charges.{with_captured}
@@ -69,7 +69,7 @@ captured_enters state entry account row intent n last charge amount found ready 
     captured_is = sums.capture_is state.rows n amount batch last charge refl latest is
 
     enough : amount ≤ charge.amount
-    enough = let authorised : intent.amount_capturable ≤ charge.amount = holds.amount in omega arith
+    enough = let authorised : intent.amount_capturable + charge.amount_captured ≡ charge.amount = holds.amount in omega arith
 
     told : IsUnderway state (with_told account row.object received event.IntentSucceeded captured)
     told =

@@ -35,7 +35,7 @@ use Rattle.ph_intents.specs.Versions.{with_version, adds_told}
 use Rattle.ph_intents.specs.declared.statuses.Step.TheVariants as step
 use Rattle.ph_intents.proofs.EnterLemmas.{Waits, created_underway, created_enters, told_enters, version_enters}
 use Rattle.ph_intents.proofs.FoundLemmas.{IsFound, keeps_at, keeps_allowed, found_attempted, found_underway, found_texts, found_told, found_waits}
-use Rattle.ph_intents.proofs.StatusLemmas.{waited_before}
+use Rattle.ph_intents.proofs.StatusLemmas.{canceled_waits, waited_before}
 use Rattle.ph_intents.proofs.TextLemmas.{front_text, with_front, either_text, either_method, merged_kept}
 
 -- the texts of a payment intent behind the name of its payment method
@@ -95,7 +95,7 @@ cancel_keeps state entry account call ready texts =
     keeps_allowed state (λ status. adds_told account row.object (canceled status) event.IntentCanceled batch)
     (next_status intent.status step.Cancel)
     (λ status to. found_told state entry account row intent (canceled status) event.IntentCanceled ready found refl kept
-    (record { charge = refl; amount = omega arith; waits = waited_before intent.status step.Cancel status to })))
+    (record { charge = refl; amount = λ here. absurd (canceled_waits intent.status status to here); waits = waited_before intent.status step.Cancel status to })))
 
 pub authenticate_keeps : KeepsSound no_texts authenticate_outcome
 authenticate_keeps state entry account call ready texts =
@@ -107,7 +107,7 @@ authenticate_keeps state entry account call ready texts =
     keeps_allowed state (λ status. attempted account row.object (paying status) method.Authenticated batch)
     (next_status intent.status step.Authenticate)
     (λ status to. found_attempted state entry account row intent (paying status) method.Authenticated ready found kept
-    (record { charge = refl; amount = omega arith; waits = waited_before intent.status step.Authenticate status to })))
+    (record { charge = refl; amount = λ here. refl; waits = waited_before intent.status step.Authenticate status to })))
 
 -- ---- the calls that change its texts
 
@@ -128,7 +128,7 @@ fail_authentication_keeps state entry account call ready texts =
     (next_status intent.status step.Fail)
     (λ status to. found_told state entry account row intent (failed status) sort ready found refl
     (failed_texts intent payment_error.NotAuthenticated status kept)
-    (record { charge = refl; amount = omega arith; waits = waited_before intent.status step.Fail status to })))
+    (record { charge = refl; amount = λ here. refl; waits = waited_before intent.status step.Fail status to })))
 
 -- the texts of a payment intent that a payment method is to pay
 paying_texts : (intent : Intent) (method : PaymentMethod) (status : IntentStatus)
@@ -158,7 +158,7 @@ confirm_keeps state entry account call ready texts =
         (next_status intent.status step.Confirm)
         (λ status to. found_attempted state entry account row intent (paying status) method.method ready found
         (paying_texts intent method status named kept)
-        (record { charge = refl; amount = omega arith; waits = waited_before intent.status step.Confirm status to }))
+        (record { charge = refl; amount = λ here. refl; waits = waited_before intent.status step.Confirm status to }))
 
 -- the texts of a payment intent after an update
 updated_texts : (call : UpdateIntent) (intent : Intent) (status : IntentStatus) → AreUtf8 (update_texts call)
@@ -193,7 +193,7 @@ update_keeps state entry account call ready texts =
     (λ status to. with_updated row.object (updated status)
     (found_underway state entry account row intent (updated status) ready found (updated_texts call intent status texts kept) refl)
     (found_waits state account row intent (updated status) ready.sound found
-    (record { charge = refl; amount = omega arith; waits = waited_before intent.status (step_of call) status to }))))
+    (record { charge = refl; amount = λ here. refl; waits = waited_before intent.status (step_of call) status to }))))
   where
     with_updated : (object : ℕ) (intent : Intent) → IsUnderway state (with_version account object intent (batch_after state entry))
         → Waits state object intent → AddsSound state (update_with account (batch_after state entry) object intent)
