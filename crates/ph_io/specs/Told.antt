@@ -1,5 +1,6 @@
 -- What a source and a sink tell of themselves.
 use Rattle.std.specs.Prelude.{◌≡◌, ℕ, List, [], ◌++◌, Option, None, Some, option_map}
+use Rattle.ph_io.specs.declared.address.Address.{Address}
 
 -- what a source tells: the bytes that it has left and those that were read, where it tells them,
 -- how often a read answered the end, and how often one failed
@@ -13,11 +14,6 @@ pub record SourceState : Type 0 where
 pub record SinkState : Type 0 where
   pub written : Option (List ℕ)
   pub faults : ℕ
-
--- where a connection leads to
-pub record Address : Type 0 where
-  pub host : List ℕ
-  pub port : ℕ
 
 -- what a connection tells beside its source: its sink and its address, which no read changes
 pub record BesideSource : Type 0 where
