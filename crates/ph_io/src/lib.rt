@@ -3,7 +3,10 @@
 
 mod address;
 mod duplex;
+mod end;
+mod gate;
 mod mem_duplex;
+mod mem_gate;
 mod mem_sink;
 mod mem_source;
 mod sink;
@@ -17,7 +20,10 @@ mod whole;
 
 pub use address::Address;
 pub use duplex::Duplex;
+pub use end::End;
+pub use gate::{Gate, GateFailed};
 pub use mem_duplex::MemDuplex;
+pub use mem_gate::{MemGate, Returned};
 pub use mem_sink::MemSink;
 pub use mem_source::MemSource;
 pub use sink::{Sink, WriteFailed};
