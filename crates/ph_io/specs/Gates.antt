@@ -1,5 +1,5 @@
 -- What a gate tells of itself, and what its calls change in that.
-use Rattle.std.specs.Prelude.{◌≡◌, ℕ, ◌+◌, ◌≤◌, List, [], ◌∷◌, ◌++◌, length, Option, None, Some, option_map, Bool, true, false}
+use Rattle.std.specs.Prelude.{◌≡◌, ℕ, ◌+◌, ◌≤◌, List, [], ◌∷◌, ◌++◌, length, Option, option_map, Bool, true, false}
 use Rattle.ph_base.specs.Counts.{Rose}
 use Rattle.ph_io.specs.Told.{SourceState, SinkState, IsSpent}
 use Rattle.ph_io.specs.declared.end.End.{End}

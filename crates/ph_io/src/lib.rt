@@ -35,4 +35,6 @@ pub use sure_source::SureSource;
 pub use whole::write_all;
 
 #[cfg(test)]
+mod gate_tests;
+#[cfg(test)]
 mod tests;
