@@ -1,5 +1,5 @@
 //! A port of this machine.
-ghost use Rattle.std.specs.Prelude.{◌≡◌, true, not, is_some, OnSome};
+ghost use Rattle.std.specs.Prelude.{◌≡◌, true, not, is_some, OnOk, OnSome};
 ghost use Rattle.ph_net.specs.Forms.{unopened};
 
 use crate::tcp_gate::TcpGate;

@@ -1,6 +1,6 @@
 //! A gate over TCP.
-ghost use Rattle.std.specs.Prelude.{◌≡◌, ◌+◌, ◌<◌, true, false, ◌==◌, IsErr, IfOk, IfSome, IfNone, OnErr, is_none};
-ghost use Rattle.ph_io.specs.Gates.{IsFresh, Gives, GateEnds, GateFails, TakesBack, return_of};
+ghost use Rattle.std.specs.Prelude.{◌≡◌, false, ◌==◌, IsErr, IfOk, IfSome, IfNone, OnErr, is_none};
+ghost use Rattle.ph_io.specs.Gates.{IsFresh, Gives, GateEnds, GateFails};
 ghost use Rattle.ph_net.specs.Forms.{unopened, told_by_gate, source_of, sink_of};
 
 use crate::port::Port;
@@ -102,9 +102,7 @@ impl<'a> Gate for TcpGate<'a> {
     }
 
     /// Closes the connection.
-    fn back(&mut self, conn: TcpDuplex, _: End)
-        requires { 0 < (told_by_gate self.old).out }
-    {
+    fn back(&mut self, conn: TcpDuplex, _: End) {
         self.out -= 1;
         drop(conn);
     }
