@@ -1,5 +1,5 @@
 //! A gate over TCP.
-ghost use Rattle.std.specs.Prelude.{◌≡◌, false, ◌==◌, IsErr, IfOk, IfSome, IfNone, OnErr, is_none};
+ghost use Rattle.std.specs.Prelude.{◌≡◌, ◌≤◌, false, ◌==◌, IsErr, IfOk, IfSome, IfNone, OnErr, is_none};
 ghost use Rattle.ph_io.specs.Gates.{IsFresh, Gives, GateEnds, GateFails};
 ghost use Rattle.ph_net.specs.Forms.{unopened, told_by_gate, source_of, sink_of};
 
@@ -77,6 +77,7 @@ impl<'a> Gate for TcpGate<'a> {
             (GateEnds (told_by_gate self.old) (told_by_gate self.new))) }
         ensures fails { OnErr result (GateFails (told_by_gate self.old) (told_by_gate self.new)) }
 
+        ensures within { self.new.given ≤ self.new.most }
         ensures none { IfOk result (λ next. is_none next ≡ (self.old.given == self.old.most)) }
         ensures unheard { self.old.listens ≡ false → IsErr result }
         ensures listens { self.new.listens ≡ self.old.listens }
