@@ -3,7 +3,8 @@ use Rattle.std.proofs.Common.{◌≡◌, ℕ, ◌+◌, ◌-◌, ◌<◌, ◌≤�
 use Rattle.std.proofs.lemmas.List.{append-nil, take_rest, length-drop, length-append, take-append-le}
 use Rattle.std.proofs.Math.Seq.{take-add, take-append-add}
 use Rattle.ph_base.specs.Counts.{Rose}
-use Rattle.ph_io.specs.Told.{SourceState, SinkState, followed_by, preceded_by, IsSpent}
+use Rattle.ph_io.specs.Told.{SourceState, SinkState, BesideSource, BesideSink, followed_by, preceded_by, IsSpent}
+use Rattle.ph_io.specs.declared.address.Address.{Address}
 use Rattle.ph_io.specs.Reads.{Moves, Ends, ReadFails, EndsAfter, FailsAfter}
 use Rattle.ph_io.specs.Writes.{Takes, WriteFails, TakesFront}
 
@@ -175,3 +176,25 @@ pub within_on :
     n ≤ length (take (length bytes - at) (drop at bytes)) → at + n ≤ length bytes
 within_on bytes at n inside piece =
     let long = ap length (take_rest bytes at) ∙ length-drop at bytes in omega arith
+
+-- a connection's sink and address stay where reads kept what stands beside its source
+pub kept_by_reads :
+    {old new : BesideSource} {sink_old sink_new : SinkState}
+    {address_old address_new : Option Address} →
+    old ≡ record { sink = sink_old; address = address_old } →
+    new ≡ record { sink = sink_new; address = address_new } → new ≡ old →
+    (sink_new ≡ sink_old) × (address_new ≡ address_old)
+kept_by_reads before after kept =
+    let same = sym after ∙ kept ∙ before in
+    (ap (λ beside. beside.sink) same, ap (λ beside. beside.address) same)
+
+-- a connection's source and address stay where writes kept what stands beside its sink
+pub kept_by_writes :
+    {old new : BesideSink} {source_old source_new : SourceState}
+    {address_old address_new : Option Address} →
+    old ≡ record { source = source_old; address = address_old } →
+    new ≡ record { source = source_new; address = address_new } → new ≡ old →
+    (source_new ≡ source_old) × (address_new ≡ address_old)
+kept_by_writes before after kept =
+    let same = sym after ∙ kept ∙ before in
+    (ap (λ beside. beside.source) same, ap (λ beside. beside.address) same)

@@ -1,7 +1,8 @@
 -- The states of the sources and sinks that this crate has.
-use Rattle.std.specs.Prelude.{ℕ, List, [], Bool, ◌==◌, None, Some}
+use Rattle.std.specs.Prelude.{ℕ, List, [], Bool, ◌==◌, Option, None, Some}
 use Rattle.std.specs.List.{list_any}
-use Rattle.ph_io.specs.Told.{SourceState, SinkState}
+use Rattle.ph_io.specs.Told.{SourceState, SinkState, BesideSource, BesideSink}
+use Rattle.ph_io.specs.declared.address.Address.{Address}
 
 -- bytes in memory that are read from the front: those that are left and those that were taken
 pub record TapeState : Type 0 where
@@ -99,3 +100,17 @@ untold_sink faults = record { written = None; faults = faults }
 -- the call of this number is one of those that fail
 abbrev pub is_listed : List ℕ → ℕ → Bool
 is_listed failing call = list_any (λ n. n == call) failing
+
+-- a connection in memory: its source, its sink and its address
+pub record MemDuplexState : Type 0 where
+  pub source : MemSourceState
+  pub sink : MemSinkState
+  pub address : Option Address
+
+-- beside its source a connection in memory tells its sink and its address
+abbrev pub beside_mem_source : MemDuplexState → BesideSource
+beside_mem_source state = record { sink = told_by_sink state.sink; address = state.address }
+
+-- beside its sink a connection in memory tells its source and its address
+abbrev pub beside_mem_sink : MemDuplexState → BesideSink
+beside_mem_sink state = record { source = told_by_mem state.source; address = state.address }

@@ -1,6 +1,12 @@
 //! What payhost reads bytes from and writes bytes to.
 #![tactic(auto)]
 
+mod address;
+mod duplex;
+mod end;
+mod gate;
+mod mem_duplex;
+mod mem_gate;
 mod mem_sink;
 mod mem_source;
 mod sink;
@@ -12,6 +18,12 @@ mod sure_source;
 mod tape;
 mod whole;
 
+pub use address::Address;
+pub use duplex::Duplex;
+pub use end::End;
+pub use gate::{Gate, GateFailed};
+pub use mem_duplex::MemDuplex;
+pub use mem_gate::{MemGate, Returned};
 pub use mem_sink::MemSink;
 pub use mem_source::MemSource;
 pub use sink::{Sink, WriteFailed};

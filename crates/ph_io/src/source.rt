@@ -1,6 +1,6 @@
 //! What bytes are read from.
 ghost use Rattle.std.specs.Prelude.{◌≡◌, ◌<◌, ◌≤◌, length, take, IfOk, OnErr};
-ghost use Rattle.ph_io.specs.Told.{SourceState};
+ghost use Rattle.ph_io.specs.Told.{SourceState, BesideSource, lone_source};
 ghost use Rattle.ph_io.specs.Reads.{Moves, Ends, ReadFails};
 
 /// A read that failed. It moved no bytes, and its source counted it.
@@ -11,6 +11,9 @@ pub struct ReadFailed;
 pub trait Source {
     /// What it tells of itself.
     ghost source: { Self → SourceState };
+
+    /// What it tells beside its source, where it is more than one: its sink and its address.
+    ghost beside_source: { Self → BesideSource } = { λ _. lone_source };
 
     /// Moves bytes from the front of what is left into the front of `room`, at least one and at
     /// most as many as it holds, and answers how many. 0 is the end: where the source tells what
@@ -23,5 +26,7 @@ pub trait Source {
             Moves (source self.old) (source self.new) (take n room.new)) }
         ensures ends { IfOk result (λ n. n ≡ 0 → Ends (source self.old) (source self.new)) }
 
-        ensures fails { OnErr result (ReadFails (source self.old) (source self.new)) };
+        ensures fails { OnErr result (ReadFails (source self.old) (source self.new)) }
+
+        ensures beside { beside_source self.new ≡ beside_source self.old };
 }
