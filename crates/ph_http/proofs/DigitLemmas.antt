@@ -6,7 +6,8 @@ use Rattle.std.proofs.lemmas.List.{drop_more, drop_all}
 use Rattle.std.proofs.lemmas.Bool.Decides.{nat_tests}
 use Rattle.std.proofs.lemmas.Slice.Eq.{bytes_eq-Decides}
 use Rattle.ph_http.specs.Headers.{Headers, has_name, value_of, all_values}
-use Rattle.ph_http.specs.Digits.{is_number, decimal_from, number_of, is_same_number, without_zeros}
+use Rattle.ph_base.specs.Numbers.{decimal_from}
+use Rattle.ph_http.specs.Digits.{is_number, number_of, is_same_number, without_zeros}
 
 -- where both hold, each does
 pub both_left : (a b : Bool) → (a && b) ≡ true → a ≡ true

@@ -1,16 +1,12 @@
 -- Decimal digits, of numbers of any size.
-use Rattle.std.specs.Prelude.{ℕ, ◌+◌, ◌*◌, ◌-◌, Bool, ◌&&◌, not, ◌==◌, if◌then◌else◌, List, [], ◌∷◌, length}
+use Rattle.std.specs.Prelude.{ℕ, Bool, ◌&&◌, not, ◌==◌, if◌then◌else◌, List, [], ◌∷◌, length}
 use Rattle.std.specs.List.{list_all}
 use Rattle.std.specs.Char.{is_ascii_digit}
+use Rattle.ph_base.specs.Numbers.{decimal_from}
 
 -- the text has digits alone, and at least one
 abbrev pub is_number : List ℕ → Bool
 is_number text = not (length text == 0) && list_all is_ascii_digit text
-
--- the number whose digits are those of n and then these
-abbrev pub decimal_from : ℕ → List ℕ → ℕ
-decimal_from n [] = n
-decimal_from n (c ∷ cs) = decimal_from (10 * n + (c - 48)) cs
 
 -- the number that these digits give; zeros in front don't count
 unfoldable pub number_of : List ℕ → ℕ

@@ -1,7 +1,7 @@
 use Rattle.std.proofs.Common.{◌≡◌, ◌≤◌, drop, min, true}
 use Rattle.std.specs.List.{list_all}
 use Rattle.std.specs.Char.{is_ascii_digit}
-use Rattle.ph_http.specs.Digits.{decimal_from}
+use Rattle.ph_base.specs.Numbers.{decimal_from}
 use Rattle.ph_http.proofs.length.capped.Given as goal
 
 abbrev pub invariant-loop-digit : goal.invariant-loop-digit
