@@ -56,8 +56,8 @@ impl Port {
         TcpGate::new(self, most)
     }
 
-    /// The next connection. It sends each write at once (TCP_NODELAY), since a reply is written
-    /// whole.
+    /// The next connection. It sends each write at once (TCP_NODELAY), so that no reply is held back
+    /// until the one before it is acknowledged. Where that can't be set, the connection is closed.
     pub(crate) fn accept(&self) -> io::Result<TcpStream>
         ensures { OnOk result (self.now ≡ true) }
     {

@@ -24,7 +24,7 @@ pub struct TcpGate<'a> {
 }
 
 impl<'a> Model for TcpGate<'a> {
-    ghost use Rattle.std.specs.Prelude.{◌≤◌};
+    ghost use Rattle.std.specs.Prelude.{◌≡◌, ◌≤◌, ◌==◌, is_none};
     ghost use Rattle.ph_net.specs.Forms.{TcpGateState};
 
     ghost Value = { TcpGateState };
@@ -38,7 +38,8 @@ impl<'a> Model for TcpGate<'a> {
       faults = g.faults;
     } };
 
-    ghost invariant = { λ g. (g.given ≤ g.most) × (g.out ≤ g.given) };
+    ghost invariant = { λ g. (g.given ≤ g.most) × (g.out ≤ g.given)
+        × (is_none g.fault ≡ (g.faults == 0)) };
 }
 
 impl<'a> TcpGate<'a> {
@@ -58,7 +59,9 @@ impl<'a> TcpGate<'a> {
     }
 
     /// Why the last call that failed did, where one did.
-    pub fn fault(&self) -> Option<io::Error> {
+    pub fn fault(&self) -> Option<io::Error>
+        ensures { is_none result ≡ (self.now.faults == 0) }
+    {
         self.fault
     }
 }
