@@ -12,7 +12,7 @@ use Rattle.ph_items.specs.declared.orders.Order.{Order}
 use Rattle.ph_rows.specs.declared.rows.Row.{Row}
 use Rattle.ph_rows.specs.Batches.{BatchState}
 use Rattle.ph_http.specs.declared.message.Raw.{Raw}
-use Rattle.ph_calls.specs.Outcomes.{Outcome, Refuses, Adds}
+use Rattle.ph_facts.specs.Outcomes.{Outcome, Refuses, Adds}
 use Rattle.ph_intents.specs.Attempts.{begun}
 use Rattle.ph_book.specs.declared.setup.Setup.{Setup}
 use Rattle.ph_book.specs.declared.acts.Answer.TheVariants as answer
