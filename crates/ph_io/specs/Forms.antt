@@ -61,6 +61,12 @@ told_by_sure state = record {
   faults = 0;
 }
 
+-- a source over a reader: the bytes that the reader has still to give, where it tells them, and its counts
+pub record StdSourceState : Type 0 where
+  pub remaining : Option (List ℕ)
+  pub ends : ℕ
+  pub faults : ℕ
+
 -- a source of which no content is known
 abbrev pub untold_source : ℕ → ℕ → SourceState
 untold_source ends faults = record {
@@ -92,6 +98,11 @@ unwritten most failing = record {
 -- a sink in memory tells all of its bytes
 abbrev pub told_by_sink : MemSinkState → SinkState
 told_by_sink state = record { written = Some state.bytes; faults = state.faults }
+
+-- a sink over a writer: the bytes that the writer holds, where it tells them, and its count
+pub record StdSinkState : Type 0 where
+  pub contents : Option (List ℕ)
+  pub faults : ℕ
 
 -- a sink of which no content is known
 abbrev pub untold_sink : ℕ → SinkState
