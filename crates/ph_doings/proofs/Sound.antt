@@ -1,0 +1,64 @@
+-- What every doing that may come keeps.
+use Rattle.std.specs.Prelude.{◌≡◌, ℕ, ◌<◌, ◌≤◌, true, List, [], ◌∷◌, length, Some}
+use Rattle.std.specs.List.{list_all}
+use Rattle.ph_attempts.specs.declared.flights.Flight.{Flight}
+use Rattle.ph_rows.specs.declared.intents.IntentStatus.TheVariants as status
+use Rattle.ph_rows.specs.declared.orders.Order.{Order}
+use Rattle.ph_doings.specs.Confirmations.{all_but_first, attempts_of_confirmation, begun_at, confirmation_of, last_of}
+use Rattle.ph_doings.specs.Doings.{Doing}
+use Rattle.ph_doings.specs.Runs.{NoRun, Flies, live_run, order_flown, run_of}
+use Rattle.ph_doings.specs.Standings.{has_begun, is_challenged, is_unsettled_of, live_order, standing_of}
+use Rattle.ph_doings.specs.Statuses.{status_of}
+
+-- each attempt that was begun stands, and was begun once
+pub record HasOwnReferences (past : List Doing) : Type 0 where
+  pub begun : (place reference : ℕ) → begun_at past place ≡ Some reference → has_begun (standing_of past reference) ≡ true
+  pub differ : (place other reference : ℕ) → begun_at past place ≡ Some reference → begun_at past other ≡ Some reference
+      → place ≡ other
+
+-- a payment intent is processing exactly where its newest attempt is unsettled; no other attempt is
+pub record HasNewestUnsettled (past : List Doing) : Type 0 where
+  pub processing : (intent reference : ℕ) → is_unsettled_of intent (standing_of past reference) ≡ true
+      → status_of past intent ≡ Some status.Processing
+  pub newest : (intent reference : ℕ) → is_unsettled_of intent (standing_of past reference) ≡ true → reference ≡ last_of past intent
+  pub unsettled : (intent : ℕ) → status_of past intent ≡ Some status.Processing
+      → is_unsettled_of intent (standing_of past (last_of past intent)) ≡ true
+
+-- a live run has its number, and is the newest of its attempt, which is live under its order; each live attempt has one
+pub record HasLiveRuns (past : List Doing) : Type 0 where
+  pub known : (run : ℕ) → length past < run → live_run past run ≡ NoRun
+  pub number : (run : ℕ) (flight : Flight) → live_run past run ≡ Flies flight → flight.run ≡ run
+  pub newest : (run : ℕ) (flight : Flight) → live_run past run ≡ Flies flight → run ≡ run_of past flight.order.reference
+  pub live : (run : ℕ) (flight : Flight) → live_run past run ≡ Flies flight
+      → live_order (standing_of past flight.order.reference) ≡ Some flight.order
+  pub own : (reference : ℕ) (order : Order) → live_order (standing_of past reference) ≡ Some order → order.reference ≡ reference
+  pub flown : (reference : ℕ) (order : Order) → live_order (standing_of past reference) ≡ Some order
+      → order_flown (live_run past (run_of past reference)) ≡ Some order
+
+-- the first, or 0
+abbrev pub first_or_zero : List ℕ → ℕ
+first_or_zero [] = 0
+first_or_zero (first ∷ others) = first
+
+-- confirmations of different payment intents are different; the newest attempt of a payment intent is that of its last
+-- confirmation, which it has where it requires action or is processing; where it requires action that attempt was challenged;
+-- and all the other attempts of a confirmation were
+pub record HasChains (past : List Doing) : Type 0 where
+  pub known : (intent : ℕ) → confirmation_of past intent ≤ length past
+  pub apart : (intent other : ℕ) → 0 < confirmation_of past intent → confirmation_of past intent ≡ confirmation_of past other
+      → intent ≡ other
+  pub newest : (intent : ℕ) → 0 < confirmation_of past intent
+      → first_or_zero (attempts_of_confirmation past (confirmation_of past intent)) ≡ last_of past intent
+  pub confirmed : (intent : ℕ) → status_of past intent ≡ Some status.RequiresAction → 0 < confirmation_of past intent
+  pub begun : (intent : ℕ) → status_of past intent ≡ Some status.Processing → 0 < confirmation_of past intent
+  pub waits : (intent : ℕ) → status_of past intent ≡ Some status.RequiresAction
+      → is_challenged (standing_of past (last_of past intent)) ≡ true
+  pub challenged : (confirmation : ℕ) → list_all (λ reference. is_challenged (standing_of past reference))
+      (all_but_first (attempts_of_confirmation past confirmation)) ≡ true
+
+-- what holds of every past in which each doing may come after those before it
+pub record IsSound (past : List Doing) : Type 0 where
+  pub references : HasOwnReferences past
+  pub unsettled : HasNewestUnsettled past
+  pub live : HasLiveRuns past
+  pub chains : HasChains past

@@ -1,0 +1,56 @@
+-- The laws of attempts, over every past in which each doing may come after those before it.
+use Rattle.std.specs.Prelude.{◌≡◌, ℕ, ◌↔◌, true, List, Some}
+use Rattle.std.specs.List.{list_all}
+use Rattle.ph_attempts.specs.declared.flights.Flight.{Flight}
+use Rattle.ph_rows.specs.declared.orders.Order.{Order}
+use Rattle.ph_rows.specs.declared.intents.IntentStatus.TheVariants as status
+use Rattle.ph_doings.specs.Confirmations.{all_but_first, attempts_of_confirmation, begun_at}
+use Rattle.ph_doings.specs.Doings.{Doing}
+use Rattle.ph_doings.specs.Lawful.{IsLawful}
+use Rattle.ph_doings.specs.Runs.{Flies, live_run}
+use Rattle.ph_doings.specs.Standings.{Live, Stands, is_challenged, is_unsettled_of, standing_of}
+use Rattle.ph_doings.specs.Statuses.{status_of}
+
+-- different attempts have different references: those which began an attempt of one reference are one doing
+abbrev pub ReferencesDiffer : Type 0
+ReferencesDiffer = (past : List Doing) → IsLawful past → (place other reference : ℕ)
+    → begun_at past place ≡ Some reference → begun_at past other ≡ Some reference → place ≡ other
+
+-- a payment intent is processing exactly where it has an attempt that isn't settled, and it never has two
+pub record HasOneUnsettled (past : List Doing) : Type 0 where
+  pub exactly : (intent : ℕ) → (status_of past intent ≡ Some status.Processing)
+      ↔ ((reference : ℕ) × (is_unsettled_of intent (standing_of past reference) ≡ true))
+  pub never_two : (intent reference other : ℕ) → is_unsettled_of intent (standing_of past reference) ≡ true
+      → is_unsettled_of intent (standing_of past other) ≡ true → reference ≡ other
+
+abbrev pub ProcessingHasOneAttempt : Type 0
+ProcessingHasOneAttempt = (past : List Doing) → IsLawful past → HasOneUnsettled past
+
+-- of a confirmation's attempts all but the newest are settled with a challenge
+abbrev pub AllButTheLastWereChallenged : Type 0
+AllButTheLastWereChallenged = (past : List Doing) → IsLawful past → (confirmation : ℕ)
+    → list_all (λ reference. is_challenged (standing_of past reference))
+    (all_but_first (attempts_of_confirmation past confirmation)) ≡ true
+
+-- what the run of a flight finds: its attempt is live under its order, and is of a payment intent that is processing
+pub record Finds (past : List Doing) (flight : Flight) : Type 0 where
+  pub intent : ℕ
+  pub standing : standing_of past flight.order.reference ≡ Stands intent flight.order Live
+  pub processing : status_of past intent ≡ Some status.Processing
+
+-- the live run of an attempt
+pub record IsFlown (past : List Doing) (reference : ℕ) : Type 0 where
+  pub flight : Flight
+  pub live : live_run past flight.run ≡ Flies flight
+  pub reference_is : flight.order.reference ≡ reference
+
+-- live runs are those of the live attempts, one each, and have their own numbers
+pub record RunsFlyAttempts (past : List Doing) : Type 0 where
+  pub number : (run : ℕ) (flight : Flight) → live_run past run ≡ Flies flight → flight.run ≡ run
+  pub finds : (run : ℕ) (flight : Flight) → live_run past run ≡ Flies flight → Finds past flight
+  pub flown : (reference intent : ℕ) (order : Order) → standing_of past reference ≡ Stands intent order Live → IsFlown past reference
+  pub never_two : (run other : ℕ) (flight second : Flight) → live_run past run ≡ Flies flight → live_run past other ≡ Flies second
+      → flight.order.reference ≡ second.order.reference → run ≡ other
+
+abbrev pub LiveIsRun : Type 0
+LiveIsRun = (past : List Doing) → IsLawful past → RunsFlyAttempts past

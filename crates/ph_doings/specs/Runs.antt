@@ -1,0 +1,54 @@
+-- Runs of attempts, read off the past. Places count from 1, so the newest doing stands at the past's length.
+use Rattle.std.specs.Prelude.{ℕ, ◌==◌, ◌&&◌, Bool, if◌then◌else◌, List, [], ◌∷◌, Option, Some, None}
+use Rattle.ph_attempts.specs.declared.flights.Flight.{Flight}
+use Rattle.ph_rows.specs.declared.orders.Order.{Order}
+use Rattle.ph_doings.specs.Doings.{Doing, Leaves, Puts, Edits, Begins, Resumes, Parks, Settles}
+
+-- a run: not live, or the live one of a number
+pub data Run : Type 0 where
+  NoRun : Run
+  Flies : Flight → Run
+
+-- it is the same run of the same caller
+abbrev pub is_same_run : Flight → Flight → Bool
+is_same_run flight other = flight.run == other.run && flight.caller == other.caller
+
+-- a run after an end of a run: its own caller's end of it is the last of it
+abbrev pub ended_by : Flight → Run → Run
+ended_by flight NoRun = NoRun
+ended_by flight (Flies other) = if is_same_run flight other then NoRun else Flies other
+
+-- the run of a number after a doing
+abbrev pub run_after : Doing → ℕ → Run → Run
+run_after Leaves run old = old
+run_after (Puts intent status) run old = old
+run_after (Edits intent status) run old = old
+run_after (Begins cause intent flight) run old = if run == flight.run then Flies flight else old
+run_after (Resumes intent flight) run old = if run == flight.run then Flies flight else old
+run_after (Parks intent flight) run old = ended_by flight old
+run_after (Settles intent flight capture ruling) run old = ended_by flight old
+
+-- the live run of a number: it is live from the doing that begins it until its own caller parks or settles it
+abbrev pub live_run : List Doing → ℕ → Run
+live_run [] run = NoRun
+live_run (doing ∷ past) run = run_after doing run (live_run past run)
+
+-- the newest run of an attempt after a doing
+abbrev pub newest_run_after : Doing → ℕ → ℕ → ℕ
+newest_run_after Leaves reference old = old
+newest_run_after (Puts intent status) reference old = old
+newest_run_after (Edits intent status) reference old = old
+newest_run_after (Begins cause intent flight) reference old = if reference == flight.order.reference then flight.run else old
+newest_run_after (Resumes intent flight) reference old = if reference == flight.order.reference then flight.run else old
+newest_run_after (Parks intent flight) reference old = old
+newest_run_after (Settles intent flight capture ruling) reference old = old
+
+-- the newest run of an attempt, or 0
+abbrev pub run_of : List Doing → ℕ → ℕ
+run_of [] reference = 0
+run_of (doing ∷ past) reference = newest_run_after doing reference (run_of past reference)
+
+-- the order of a run that is live
+abbrev pub order_flown : Run → Option Order
+order_flown NoRun = None
+order_flown (Flies flight) = Some flight.order
