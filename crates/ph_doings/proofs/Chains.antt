@@ -9,9 +9,10 @@ use Rattle.ph_rows.specs.declared.intents.CaptureMethod.{CaptureMethod}
 use Rattle.ph_rows.specs.declared.intents.IntentStatus.{IntentStatus}
 use Rattle.ph_rows.specs.declared.intents.IntentStatus.TheVariants as status
 use Rattle.ph_doings.specs.Confirmations.{all_but_first, attempts_of_confirmation, confirmation_of, last_of}
-use Rattle.ph_doings.specs.Doings.{Confirms, Authenticates, Doing, Leaves, Puts, Edits, Begins, Resumes, Parks, Settles}
+use Rattle.ph_doings.specs.Doings.{Cause, Confirms, Authenticates, Doing, Leaves, Puts, Edits, Begins, Resumes, Parks, Settles}
 use Rattle.ph_doings.specs.Standings.{Live, Parked, NotBegun, Stands, is_challenged, standing_of}
-use Rattle.ph_doings.specs.Statuses.{status_of}
+use Rattle.ph_doings.specs.Statuses.{may_begin, status_of}
+use Rattle.ph_doings.proofs.Tables.{authenticates_waiting}
 use Rattle.ph_doings.proofs.Sound.{HasChains, HasNewestUnsettled, first_or_zero}
 
 -- ---- lists
@@ -81,7 +82,7 @@ chains_edits past intent put old is = record {
   challenged = old.challenged;
 }
 
-pub chains_confirms : (past : List Doing) (intent : ℕ) (flight : Flight) → HasChains past
+chains_confirms : (past : List Doing) (intent : ℕ) (flight : Flight) → HasChains past
     → standing_of past flight.order.reference ≡ NotBegun → HasChains (Begins Confirms intent flight ∷ past)
 chains_confirms past intent flight old new = record {
   known = λ i. grind (arith, nat_tests, old.known i);
@@ -96,7 +97,7 @@ chains_confirms past intent flight old new = record {
       (λ _. still past (Begins Confirms intent flight) (λ q h. grind (arith, nat_tests, new)) (all_but_first (attempts_of_confirmation past c)) (old.challenged c));
 }
 
-pub chains_authenticates : (past : List Doing) (intent : ℕ) (flight : Flight) → HasChains past
+chains_authenticates : (past : List Doing) (intent : ℕ) (flight : Flight) → HasChains past
     → standing_of past flight.order.reference ≡ NotBegun → status_of past intent ≡ Some status.RequiresAction
     → HasChains (Begins Authenticates intent flight ∷ past)
 chains_authenticates past intent flight old new need = record {
@@ -120,6 +121,13 @@ chains_authenticates past intent flight old new need = record {
     whole c same =
         let first : first_or_zero (attempts_of_confirmation past c) ≡ last_of past intent = rw same (old.newest intent (old.confirmed intent need)) in
         all_with_first (λ q. is_challenged (standing_of past q)) (attempts_of_confirmation past c) (rw first (old.waits intent need)) (old.challenged c)
+
+pub chains_begins : (past : List Doing) (cause : Cause) (intent : ℕ) (flight : Flight) → HasChains past
+    → standing_of past flight.order.reference ≡ NotBegun → may_begin cause (status_of past intent) ≡ true
+    → HasChains (Begins cause intent flight ∷ past)
+chains_begins past Confirms intent flight old new may = chains_confirms past intent flight old new
+chains_begins past Authenticates intent flight old new may =
+    chains_authenticates past intent flight old new (authenticates_waiting (status_of past intent) may)
 
 pub chains_resumes : (past : List Doing) (intent : ℕ) (flight : Flight) → HasChains past
     → standing_of past flight.order.reference ≡ Stands intent flight.order Parked → HasChains (Resumes intent flight ∷ past)

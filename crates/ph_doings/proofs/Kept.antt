@@ -1,13 +1,13 @@
 -- Whatever may come next keeps what holds; so it holds of every past in which each doing may come after those before it.
 use Rattle.std.proofs.Common.{List, [], ◌∷◌, refl, arith}
-use Rattle.ph_doings.specs.Doings.{Confirms, Authenticates, Doing, Leaves, Puts, Edits, Begins, Resumes, Parks, Settles}
+use Rattle.ph_doings.specs.Doings.{Doing, Leaves, Puts, Edits, Begins, Resumes, Parks, Settles}
 use Rattle.ph_doings.specs.Lawful.{IsLawful, MayDo}
 use Rattle.ph_doings.specs.Statuses.{status_of}
-use Rattle.ph_doings.proofs.Chains.{chains_leaves, chains_puts, chains_edits, chains_confirms, chains_authenticates, chains_resumes, chains_parks, chains_settles}
+use Rattle.ph_doings.proofs.Chains.{chains_leaves, chains_puts, chains_edits, chains_begins, chains_resumes, chains_parks, chains_settles}
 use Rattle.ph_doings.proofs.LiveRuns.{live_leaves, live_puts, live_edits, live_begins, live_resumes, live_parks, live_settles}
 use Rattle.ph_doings.proofs.References.{own_leaves, own_puts, own_edits, own_begins, own_resumes, own_parks, own_settles}
 use Rattle.ph_doings.proofs.Sound.{IsSound}
-use Rattle.ph_doings.proofs.Tables.{not_both, not_confirmed_while_processing, not_put_processing, not_put_waiting, not_put_while_processing}
+use Rattle.ph_doings.proofs.Tables.{not_begun_while_processing, not_put_processing, not_put_waiting, not_put_while_processing}
 use Rattle.ph_doings.proofs.Unsettled.{unsettled_leaves, unsettled_puts, unsettled_edits, unsettled_begins, unsettled_resumes, unsettled_parks, unsettled_settles}
 
 pub kept : (past : List Doing) (doing : Doing) → IsSound past → MayDo past doing → IsSound (doing ∷ past)
@@ -31,18 +31,12 @@ kept past (Edits intent put) old may = record {
   live = live_edits past intent put old.live;
   chains = chains_edits past intent put old.chains may;
 }
-kept past (Begins Confirms intent flight) old may = record {
-  references = own_begins past Confirms intent flight old.references may.1;
-  unsettled = unsettled_begins past Confirms intent flight old.unsettled may.1
-      (not_confirmed_while_processing (status_of past intent) may.2);
-  live = live_begins past Confirms intent flight old.live may.0 may.1;
-  chains = chains_confirms past intent flight old.chains may.1;
-}
-kept past (Begins Authenticates intent flight) old may = record {
-  references = own_begins past Authenticates intent flight old.references may.1;
-  unsettled = unsettled_begins past Authenticates intent flight old.unsettled may.1 (not_both (status_of past intent) may.2);
-  live = live_begins past Authenticates intent flight old.live may.0 may.1;
-  chains = chains_authenticates past intent flight old.chains may.1 may.2;
+kept past (Begins cause intent flight) old may = record {
+  references = own_begins past cause intent flight old.references may.1;
+  unsettled = unsettled_begins past cause intent flight old.unsettled may.1
+      (not_begun_while_processing cause (status_of past intent) may.2);
+  live = live_begins past cause intent flight old.live may.0 may.1;
+  chains = chains_begins past cause intent flight old.chains may.1 may.2;
 }
 kept past (Resumes intent flight) old may = record {
   references = own_resumes past intent flight old.references;

@@ -6,3 +6,4 @@ pub mod Chains
 pub mod Tables
 pub mod Kept
 pub mod LawProofs
+pub mod KeptLists

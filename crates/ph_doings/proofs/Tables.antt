@@ -1,8 +1,9 @@
 -- What the tables of statuses allow.
-use Rattle.std.proofs.Common.{◌≡◌, true, false, Option, Some, None}
+use Rattle.std.proofs.Common.{◌≡◌, true, false, Option, Some, None, refl}
 use Rattle.ph_rows.specs.declared.intents.IntentStatus.{IntentStatus}
 use Rattle.ph_rows.specs.declared.intents.IntentStatus.TheVariants as status
-use Rattle.ph_doings.specs.Statuses.{may_confirm, may_put}
+use Rattle.ph_doings.specs.Doings.{Cause, Confirms, Authenticates}
+use Rattle.ph_doings.specs.Statuses.{may_authenticate, may_begin, may_put}
 
 -- a payment intent that is processing isn't put anywhere
 pub not_put_while_processing : (old : Option IntentStatus) (put : IntentStatus) → may_put old put ≡ true → old ≡ Some status.Processing → ⊥
@@ -29,10 +30,18 @@ not_put_waiting (Some status.RequiresCapture) put may is = let no_place : false 
 not_put_waiting (Some status.Succeeded) put may is = cc
 not_put_waiting (Some status.Canceled) put may is = cc
 
--- a payment intent that is processing isn't confirmed
-pub not_confirmed_while_processing : (old : Option IntentStatus) → may_confirm old ≡ true → old ≡ Some status.Processing → ⊥
-not_confirmed_while_processing old may is = let no_place : false ≡ true = rw is at may in cc
+-- no attempt begins of a payment intent that is processing
+pub not_begun_while_processing : (cause : Cause) (old : Option IntentStatus) → may_begin cause old ≡ true → old ≡ Some status.Processing → ⊥
+not_begun_while_processing Confirms old may is = let no_place : false ≡ true = rw is at may in cc
+not_begun_while_processing Authenticates old may is = let no_place : false ≡ true = rw is at may in cc
 
--- what requires action isn't processing
-pub not_both : (old : Option IntentStatus) → old ≡ Some status.RequiresAction → old ≡ Some status.Processing → ⊥
-not_both old waits runs = cc
+-- a customer authenticates only where the payment intent waits for that
+pub authenticates_waiting : (old : Option IntentStatus) → may_authenticate old ≡ true → old ≡ Some status.RequiresAction
+authenticates_waiting None may = absurd (cc)
+authenticates_waiting (Some status.RequiresPaymentMethod) may = absurd (cc)
+authenticates_waiting (Some status.RequiresConfirmation) may = absurd (cc)
+authenticates_waiting (Some status.RequiresAction) may = refl
+authenticates_waiting (Some status.Processing) may = absurd (cc)
+authenticates_waiting (Some status.RequiresCapture) may = absurd (cc)
+authenticates_waiting (Some status.Succeeded) may = absurd (cc)
+authenticates_waiting (Some status.Canceled) may = absurd (cc)

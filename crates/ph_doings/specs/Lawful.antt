@@ -1,10 +1,9 @@
 -- When each doing may come.
 use Rattle.std.specs.Prelude.{◌≡◌, suc, true, List, [], ◌∷◌, length, Some}
-use Rattle.ph_rows.specs.declared.intents.IntentStatus.TheVariants as status
-use Rattle.ph_doings.specs.Doings.{Confirms, Authenticates, Doing, Leaves, Puts, Edits, Begins, Resumes, Parks, Settles}
+use Rattle.ph_doings.specs.Doings.{Doing, Leaves, Puts, Edits, Begins, Resumes, Parks, Settles}
 use Rattle.ph_doings.specs.Runs.{Flies, live_run}
 use Rattle.ph_doings.specs.Standings.{Live, Parked, NotBegun, Stands, standing_of}
-use Rattle.ph_doings.specs.Statuses.{may_confirm, may_put, status_of}
+use Rattle.ph_doings.specs.Statuses.{may_begin, may_put, status_of}
 
 -- what may come after the past: whatever leaves all as it is; a payment intent put where the table says, or edited at its
 -- status; an attempt that hasn't begun, of a payment intent that may be confirmed or waits for its customer; a parked attempt
@@ -13,10 +12,8 @@ abbrev pub MayDo : List Doing → Doing → Type 0
 MayDo past Leaves = Unit {0}
 MayDo past (Puts intent status) = may_put (status_of past intent) status ≡ true
 MayDo past (Edits intent status) = status_of past intent ≡ Some status
-MayDo past (Begins Confirms intent flight) = (flight.run ≡ suc (length past))
-    × (standing_of past flight.order.reference ≡ NotBegun) × (may_confirm (status_of past intent) ≡ true)
-MayDo past (Begins Authenticates intent flight) = (flight.run ≡ suc (length past))
-    × (standing_of past flight.order.reference ≡ NotBegun) × (status_of past intent ≡ Some status.RequiresAction)
+MayDo past (Begins cause intent flight) = (flight.run ≡ suc (length past))
+    × (standing_of past flight.order.reference ≡ NotBegun) × (may_begin cause (status_of past intent) ≡ true)
 MayDo past (Resumes intent flight) = (flight.run ≡ suc (length past))
     × (standing_of past flight.order.reference ≡ Stands intent flight.order Parked)
 MayDo past (Parks intent flight) = (live_run past flight.run ≡ Flies flight)

@@ -6,8 +6,10 @@ use Rattle.ph_rows.specs.declared.orders.Order.{Order}
 use Rattle.ph_rows.specs.declared.intents.IntentStatus.TheVariants as status
 use Rattle.ph_doings.specs.Confirmations.{all_but_first, attempts_of_confirmation, begun_at}
 use Rattle.ph_doings.specs.Doings.{Doing}
+use Rattle.ph_doings.specs.Kept.{attempts_after, live_in, parked_in}
 use Rattle.ph_doings.specs.Lawful.{IsLawful}
-use Rattle.ph_doings.specs.Runs.{Flies, live_run}
+use Rattle.ph_doings.specs.Parks.{parked_attempts}
+use Rattle.ph_doings.specs.Runs.{Flies, live_run, live_runs}
 use Rattle.ph_doings.specs.Standings.{Live, Stands, is_challenged, is_unsettled_of, standing_of}
 use Rattle.ph_doings.specs.Statuses.{status_of}
 
@@ -54,3 +56,12 @@ pub record RunsFlyAttempts (past : List Doing) : Type 0 where
 
 abbrev pub LiveIsRun : Type 0
 LiveIsRun = (past : List Doing) → IsLawful past → RunsFlyAttempts past
+
+-- the attempts that are kept are the live runs, in the order in which they began, and the parked attempts, in the order of
+-- their last parks
+pub record KeepsUnsettled (past : List Doing) : Type 0 where
+  pub live : live_in (attempts_after past) ≡ live_runs past
+  pub parked : parked_in (attempts_after past) ≡ parked_attempts past
+
+abbrev pub AttemptsAreUnsettled : Type 0
+AttemptsAreUnsettled = (past : List Doing) → IsLawful past → KeepsUnsettled past

@@ -3,5 +3,7 @@ pub mod Statuses
 pub mod Standings
 pub mod Runs
 pub mod Confirmations
+pub mod Parks
+pub mod Kept
 pub mod Lawful
 pub mod Laws

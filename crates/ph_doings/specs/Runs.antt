@@ -1,5 +1,5 @@
 -- Runs of attempts, read off the past. Places count from 1, so the newest doing stands at the past's length.
-use Rattle.std.specs.Prelude.{ℕ, ◌==◌, ◌&&◌, Bool, if◌then◌else◌, List, [], ◌∷◌, Option, Some, None}
+use Rattle.std.specs.Prelude.{ℕ, zero, suc, ◌==◌, ◌&&◌, Bool, if◌then◌else◌, List, [], ◌∷◌, ◌++◌, length, Option, Some, None}
 use Rattle.ph_attempts.specs.declared.flights.Flight.{Flight}
 use Rattle.ph_rows.specs.declared.orders.Order.{Order}
 use Rattle.ph_doings.specs.Doings.{Doing, Leaves, Puts, Edits, Begins, Resumes, Parks, Settles}
@@ -52,3 +52,17 @@ run_of (doing ∷ past) reference = newest_run_after doing reference (run_of pas
 abbrev pub order_flown : Run → Option Order
 order_flown NoRun = None
 order_flown (Flies flight) = Some flight.order
+
+-- the flight of a run that is live
+abbrev pub flights_in : Run → List Flight
+flights_in NoRun = []
+flights_in (Flies flight) = flight ∷ []
+
+-- the live runs whose numbers go up to this one, in the order of their numbers
+abbrev pub live_up_to : List Doing → ℕ → List Flight
+live_up_to past zero = []
+live_up_to past (suc number) = live_up_to past number ++ flights_in (live_run past (suc number))
+
+-- the live runs, in the order in which they began: a run has the number of the place where it begins
+abbrev pub live_runs : List Doing → List Flight
+live_runs past = live_up_to past (length past)

@@ -7,7 +7,7 @@ use Rattle.ph_rows.specs.declared.intents.CaptureMethod.{CaptureMethod}
 use Rattle.ph_rows.specs.declared.intents.CaptureMethod.TheVariants as capture_method
 use Rattle.ph_rows.specs.declared.intents.IntentStatus.{IntentStatus}
 use Rattle.ph_rows.specs.declared.intents.IntentStatus.TheVariants as status
-use Rattle.ph_doings.specs.Doings.{Doing, Leaves, Puts, Edits, Begins, Resumes, Parks, Settles}
+use Rattle.ph_doings.specs.Doings.{Cause, Confirms, Authenticates, Doing, Leaves, Puts, Edits, Begins, Resumes, Parks, Settles}
 
 -- where an approval leaves a payment intent: paid, or held to be captured
 abbrev pub status_approved : CaptureMethod → IntentStatus
@@ -71,3 +71,19 @@ may_confirm (Some status.Processing) = false
 may_confirm (Some status.RequiresCapture) = false
 may_confirm (Some status.Succeeded) = false
 may_confirm (Some status.Canceled) = false
+
+-- whether the customer of a payment intent may authenticate: where it waits for that
+abbrev pub may_authenticate : Option IntentStatus → Bool
+may_authenticate None = false
+may_authenticate (Some status.RequiresPaymentMethod) = false
+may_authenticate (Some status.RequiresConfirmation) = false
+may_authenticate (Some status.RequiresAction) = true
+may_authenticate (Some status.Processing) = false
+may_authenticate (Some status.RequiresCapture) = false
+may_authenticate (Some status.Succeeded) = false
+may_authenticate (Some status.Canceled) = false
+
+-- whether an attempt of a payment intent may begin
+abbrev pub may_begin : Cause → Option IntentStatus → Bool
+may_begin Confirms old = may_confirm old
+may_begin Authenticates old = may_authenticate old

@@ -1,6 +1,6 @@
 //! Laws of what entries do to payment intents and attempts, each the contract of a function that does nothing. They
 //! speak of every list of doings of which each may come after those before it.
-ghost use Rattle.ph_doings.specs.Laws.{AllButTheLastWereChallenged, LiveIsRun, ProcessingHasOneAttempt, ReferencesDiffer};
+ghost use Rattle.ph_doings.specs.Laws.{AllButTheLastWereChallenged, AttemptsAreUnsettled, LiveIsRun, ProcessingHasOneAttempt, ReferencesDiffer};
 
 /// Different attempts have different references.
 pub fn references_differ()
@@ -21,4 +21,10 @@ pub fn all_but_the_last_were_challenged()
 /// processing: a ruling finds its attempt and its payment intent.
 pub fn live_is_run()
     ensures { LiveIsRun }
+{}
+
+/// The attempts that the program keeps are the live runs, in the order in which they began, and the parked attempts, in
+/// the order of their last parks.
+pub fn attempts_are_unsettled()
+    ensures { AttemptsAreUnsettled }
 {}

@@ -4,5 +4,6 @@
 mod laws;
 
 pub use laws::{
-    all_but_the_last_were_challenged, live_is_run, processing_has_one_attempt, references_differ,
+    all_but_the_last_were_challenged, attempts_are_unsettled, live_is_run,
+    processing_has_one_attempt, references_differ,
 };
