@@ -63,6 +63,7 @@ sound_none = record {
   unsettled = record { processing = λ i q h. absurd (cc); newest = λ i q h. absurd (cc); unsettled = λ i h. absurd (cc) };
   live = record {
     known = λ run h. refl;
+    above = λ run flight h. absurd (cc);
     number = λ run flight h. absurd (cc);
     newest = λ run flight h. absurd (cc);
     live = λ run flight h. absurd (cc);

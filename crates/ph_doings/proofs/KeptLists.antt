@@ -149,7 +149,7 @@ among-same past now (doing ∷ older) same le =
     rw (others, last) refl
 
 -- what is parked of one flight, by the tests
-abbrev FlightSame : List Doing → List Doing → Type 0
+abbrev pub FlightSame : List Doing → List Doing → Type 0
 FlightSame past now = (flight : Flight) (place : ℕ) → place ≤ length past
     → (is_parked (standing_of now flight.order.reference) && place == parked_at now flight.order.reference)
     ≡ (is_parked (standing_of past flight.order.reference) && place == parked_at past flight.order.reference)
@@ -198,7 +198,7 @@ resumed_among past (doing ∷ older) intent flight =
     (sym (filter-append (λ order. not (flight.order.reference == order.reference)) (parked_among past older) (parked_since past doing (suc (length older)))))
 
 -- a place of the past is before the next one
-parked_at-le : (past : List Doing) (reference : ℕ) → parked_at past reference ≤ length past
+pub parked_at-le : (past : List Doing) (reference : ℕ) → parked_at past reference ≤ length past
 parked_at-le [] reference = omega arith
 parked_at-le (Leaves ∷ past) reference = let old = parked_at-le past reference in omega (arith, old)
 parked_at-le (Puts i put ∷ past) reference = let old = parked_at-le past reference in omega (arith, old)
@@ -223,7 +223,7 @@ parks_parks : (past : List Doing) (intent : ℕ) (flight : Flight)
 parks_parks past intent flight is other place le = grind (arith, nat_tests, is)
 
 -- a park puts its attempt behind the others
-parked_last : (past : List Doing) (intent : ℕ) (flight : Flight) → standing_of past flight.order.reference ≡ Stands intent flight.order Live
+pub parked_last : (past : List Doing) (intent : ℕ) (flight : Flight) → standing_of past flight.order.reference ≡ Stands intent flight.order Live
     → parked_attempts (Parks intent flight ∷ past) ≡ parked_attempts past ++ flight.order ∷ []
 parked_last past intent flight is =
     let others : parked_among (Parks intent flight ∷ past) past ≡ parked_attempts past =
@@ -231,6 +231,28 @@ parked_last past intent flight is =
     let same : (flight.order.reference == flight.order.reference) ≡ true = grind (arith, nat_tests) in
     let now : (suc (length past) == suc (length past)) ≡ true = grind (arith, nat_tests) in
     rw (others, same, now) refl
+
+-- ---- the parked attempts after each doing
+
+pub begins_parked : (past : List Doing) (cause : Cause) (intent : ℕ) (flight : Flight) → standing_of past flight.order.reference ≡ NotBegun
+    → parked_attempts (Begins cause intent flight ∷ past) ≡ parked_attempts past
+begins_parked past cause intent flight new = append-nil (parked_among (Begins cause intent flight ∷ past) past)
+    ∙ parked_stay past (Begins cause intent flight) (begins_parks past cause intent flight new)
+
+pub settles_parked : (past : List Doing) (intent : ℕ) (flight : Flight) (capture : CaptureMethod) (ruling : Ruling)
+    → standing_of past flight.order.reference ≡ Stands intent flight.order Live
+    → parked_attempts (Settles intent flight capture ruling ∷ past) ≡ parked_attempts past
+settles_parked past intent flight capture ruling is = append-nil (parked_among (Settles intent flight capture ruling ∷ past) past)
+    ∙ parked_stay past (Settles intent flight capture ruling) (settles_parks past intent flight capture ruling is)
+
+pub resumed_parked : (past : List Doing) (intent : ℕ) (flight : Flight)
+    → parked_attempts (Resumes intent flight ∷ past) ≡ without_order flight.order.reference (parked_attempts past)
+resumed_parked past intent flight = append-nil (parked_among (Resumes intent flight ∷ past) past) ∙ resumed_among past past intent flight
+
+pub quiet_parked : (past : List Doing) (doing : Doing) → FlightSame past (doing ∷ past)
+    → parked_since (doing ∷ past) doing (suc (length past)) ≡ [] → parked_attempts (doing ∷ past) ≡ parked_attempts past
+quiet_parked past doing same none = ap (λ xs. parked_among (doing ∷ past) past ++ xs) none
+    ∙ append-nil (parked_among (doing ∷ past) past) ∙ parked_stay past doing same
 
 -- a doing that makes no step
 quiet_keeps : (past : List Doing) (doing : Doing) → step_of doing ≡ None → ((run : ℕ) → live_run (doing ∷ past) run ≡ live_run past run)
@@ -240,7 +262,7 @@ quiet_keeps past doing no_step runs parks none holds old = record {
   live = ap (λ step. live_in (after_step (attempts_after past) step)) no_step ∙ old.live
       ∙ sym (unchanged past doing runs (holds.live.known (suc (length past)) (omega arith)));
   parked = ap (λ step. parked_in (after_step (attempts_after past) step)) no_step ∙ old.parked
-      ∙ sym (ap (λ xs. parked_among (doing ∷ past) past ++ xs) none ∙ append-nil (parked_among (doing ∷ past) past) ∙ parked_stay past doing parks);
+      ∙ sym (quiet_parked past doing parks none);
 }
 
 keeps_as : (past : List Doing) (doing : Doing) → IsSound past → MayDo past doing → KeepsUnsettled past → KeepsUnsettled (doing ∷ past)
@@ -251,7 +273,7 @@ keeps_as past (Begins cause intent flight) holds may old = record {
   live = live_in-append (attempts_after past) (unsettled.Live flight ∷ [])
       ∙ ap (λ xs. xs ++ flight ∷ []) old.live ∙ sym (begun_last past (Begins cause intent flight) flight (λ run. refl) may.0);
   parked = parked_in-append (attempts_after past) (unsettled.Live flight ∷ []) ∙ append-nil (parked_in (attempts_after past)) ∙ old.parked
-      ∙ sym (append-nil (parked_among (Begins cause intent flight ∷ past) past) ∙ parked_stay past (Begins cause intent flight) (begins_parks past cause intent flight may.1));
+      ∙ sym (begins_parked past cause intent flight may.1);
 }
 keeps_as past (Resumes intent flight) holds may old = record {
   live = live_in-append (without_parked flight.order.reference (attempts_after past)) (unsettled.Live flight ∷ [])
@@ -260,7 +282,7 @@ keeps_as past (Resumes intent flight) holds may old = record {
   parked = parked_in-append (without_parked flight.order.reference (attempts_after past)) (unsettled.Live flight ∷ [])
       ∙ append-nil (parked_in (without_parked flight.order.reference (attempts_after past)))
       ∙ parked_in-without_parked flight.order.reference (attempts_after past) ∙ ap (without_order flight.order.reference) old.parked
-      ∙ sym (append-nil (parked_among (Resumes intent flight ∷ past) past) ∙ resumed_among past past intent flight);
+      ∙ sym (resumed_parked past intent flight);
 }
 keeps_as past (Parks intent flight) holds may old = record {
   live = live_in-append (without_live flight (attempts_after past)) (unsettled.Parked flight.order ∷ [])
@@ -275,8 +297,7 @@ keeps_as past (Settles intent flight capture ruling) holds may old = record {
   live = live_in-without_live flight (attempts_after past) ∙ ap (without_run flight) old.live
       ∙ sym (ended_runs past (Settles intent flight capture ruling) flight (λ run. refl) (holds.live.known (suc (length past)) (omega arith)));
   parked = parked_in-without_live flight (attempts_after past) ∙ old.parked
-      ∙ sym (append-nil (parked_among (Settles intent flight capture ruling ∷ past) past)
-      ∙ parked_stay past (Settles intent flight capture ruling) (settles_parks past intent flight capture ruling may.1));
+      ∙ sym (settles_parked past intent flight capture ruling may.1);
 }
 
 pub attempts_are_unsettled : AttemptsAreUnsettled

@@ -7,3 +7,5 @@ pub mod Tables
 pub mod Kept
 pub mod LawProofs
 pub mod KeptLists
+pub mod Queue
+pub mod FoundRuns

@@ -13,6 +13,7 @@ use Rattle.ph_doings.proofs.Sound.{HasLiveRuns}
 pub live_leaves : (past : List Doing) → HasLiveRuns past → HasLiveRuns (Leaves ∷ past)
 live_leaves past old = record {
   known = λ run h. old.known run (omega arith);
+  above = old.above;
   number = old.number;
   newest = old.newest;
   live = old.live;
@@ -23,6 +24,7 @@ live_leaves past old = record {
 pub live_puts : (past : List Doing) (intent : ℕ) (put : IntentStatus) → HasLiveRuns past → HasLiveRuns (Puts intent put ∷ past)
 live_puts past intent status old = record {
   known = λ run h. old.known run (omega arith);
+  above = old.above;
   number = old.number;
   newest = old.newest;
   live = old.live;
@@ -33,6 +35,7 @@ live_puts past intent status old = record {
 pub live_edits : (past : List Doing) (intent : ℕ) (put : IntentStatus) → HasLiveRuns past → HasLiveRuns (Edits intent put ∷ past)
 live_edits past intent status old = record {
   known = λ run h. old.known run (omega arith);
+  above = old.above;
   number = old.number;
   newest = old.newest;
   live = old.live;
@@ -44,6 +47,7 @@ pub live_begins : (past : List Doing) (cause : Cause) (intent : ℕ) (flight : F
     → standing_of past flight.order.reference ≡ NotBegun → HasLiveRuns (Begins cause intent flight ∷ past)
 live_begins past cause intent flight old place new = record {
   known = λ run h. grind (arith, nat_tests, place, old.known run);
+  above = λ run f h. grind (arith, nat_tests, place, old.above run f);
   number = λ run f h. grind (arith, nat_tests, old.number run f);
   newest = λ run f h. grind (arith, nat_tests, new, old.newest run f, old.live run f);
   live = λ run f h. grind (arith, nat_tests, new, old.live run f);
@@ -55,6 +59,7 @@ pub live_resumes : (past : List Doing) (intent : ℕ) (flight : Flight) → HasL
     → standing_of past flight.order.reference ≡ Stands intent flight.order Parked → HasLiveRuns (Resumes intent flight ∷ past)
 live_resumes past intent flight old place is = record {
   known = λ run h. grind (arith, nat_tests, place, old.known run);
+  above = λ run f h. grind (arith, nat_tests, place, old.above run f);
   number = λ run f h. grind (arith, nat_tests, old.number run f);
   newest = λ run f h. grind (arith, nat_tests, is, old.newest run f, old.live run f);
   live = λ run f h. grind (arith, nat_tests, is, old.live run f);
@@ -66,6 +71,7 @@ pub live_parks : (past : List Doing) (intent : ℕ) (flight : Flight) → HasLiv
     → standing_of past flight.order.reference ≡ Stands intent flight.order Live → HasLiveRuns (Parks intent flight ∷ past)
 live_parks past intent flight old flies is = record {
   known = λ run h. grind (arith, nat_tests, old.known run);
+  above = λ run f h. grind (arith, nat_tests, old.above run f);
   number = λ run f h. grind (arith, nat_tests, old.number run f);
   newest = λ run f h. grind (arith, nat_tests, old.newest run f);
   live = λ run f h. grind (arith, nat_tests, flies, old.newest run f, old.live run f, old.number run f, old.newest flight.run flight);
@@ -78,6 +84,7 @@ pub live_settles : (past : List Doing) (intent : ℕ) (flight : Flight) (capture
     → HasLiveRuns (Settles intent flight capture ruling ∷ past)
 live_settles past intent flight capture ruling old flies is = record {
   known = λ run h. grind (arith, nat_tests, old.known run);
+  above = λ run f h. grind (arith, nat_tests, old.above run f);
   number = λ run f h. grind (arith, nat_tests, old.number run f);
   newest = λ run f h. grind (arith, nat_tests, old.newest run f);
   live = λ run f h. grind (arith, nat_tests, flies, old.newest run f, old.live run f, old.number run f, old.newest flight.run flight);

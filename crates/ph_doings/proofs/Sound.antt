@@ -27,6 +27,7 @@ pub record HasNewestUnsettled (past : List Doing) : Type 0 where
 -- a live run has its number, and is the newest of its attempt, which is live under its order; each live attempt has one
 pub record HasLiveRuns (past : List Doing) : Type 0 where
   pub known : (run : ℕ) → length past < run → live_run past run ≡ NoRun
+  pub above : (run : ℕ) (flight : Flight) → live_run past run ≡ Flies flight → 0 < run
   pub number : (run : ℕ) (flight : Flight) → live_run past run ≡ Flies flight → flight.run ≡ run
   pub newest : (run : ℕ) (flight : Flight) → live_run past run ≡ Flies flight → run ≡ run_of past flight.order.reference
   pub live : (run : ℕ) (flight : Flight) → live_run past run ≡ Flies flight

@@ -1,7 +1,7 @@
 -- The attempts that aren't settled, as the program keeps them: each step drops at most one entry, and puts at most one
 -- behind the others.
-use Rattle.std.specs.Prelude.{ℕ, ◌==◌, Bool, false, not, List, [], ◌∷◌, ◌++◌, Option, Some, None}
-use Rattle.std.specs.List.{filter}
+use Rattle.std.specs.Prelude.{ℕ, ◌==◌, ◌&&◌, Bool, false, not, List, [], ◌∷◌, ◌++◌, Option, Some, None}
+use Rattle.std.specs.List.{filter, find}
 use Rattle.ph_rows.specs.declared.orders.Order.{Order}
 use Rattle.ph_attempts.specs.Attempts.{Step}
 use Rattle.ph_attempts.specs.Attempts as step
@@ -68,3 +68,11 @@ abbrev pub parked_in : List Attempt → List Order
 parked_in [] = []
 parked_in (unsettled.Live flight ∷ attempts) = parked_in attempts
 parked_in (unsettled.Parked order ∷ attempts) = order ∷ parked_in attempts
+
+-- it has this number and caller
+abbrev pub is_run : ℕ → ℕ → Flight → Bool
+is_run caller run flight = flight.run == run && flight.caller == caller
+
+-- the live run of a caller with a number
+abbrev pub run_in : List Attempt → ℕ → ℕ → Option Flight
+run_in attempts caller run = find (is_run caller run) (live_in attempts)

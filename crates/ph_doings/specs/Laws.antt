@@ -1,16 +1,18 @@
 -- The laws of attempts, over every past in which each doing may come after those before it.
-use Rattle.std.specs.Prelude.{◌≡◌, ℕ, ◌↔◌, true, List, Some}
+use Rattle.std.specs.Prelude.{◌≡◌, ◌≢◌, ℕ, ◌<◌, ◌↔◌, true, false, List, Option, Some, None}
 use Rattle.std.specs.List.{list_all}
+use Rattle.ph_attempts.specs.Attempts.{Step, flight_of}
+use Rattle.ph_attempts.specs.declared.flights.Attempt.{Attempt}
 use Rattle.ph_attempts.specs.declared.flights.Flight.{Flight}
 use Rattle.ph_rows.specs.declared.orders.Order.{Order}
 use Rattle.ph_rows.specs.declared.intents.IntentStatus.TheVariants as status
 use Rattle.ph_doings.specs.Confirmations.{all_but_first, attempts_of_confirmation, begun_at}
 use Rattle.ph_doings.specs.Doings.{Doing}
-use Rattle.ph_doings.specs.Kept.{attempts_after, live_in, parked_in}
+use Rattle.ph_doings.specs.Kept.{after, attempts_after, live_in, parked_in, run_in}
 use Rattle.ph_doings.specs.Lawful.{IsLawful}
-use Rattle.ph_doings.specs.Parks.{parked_attempts}
+use Rattle.ph_doings.specs.Parks.{first_parked, parked_at, parked_attempts}
 use Rattle.ph_doings.specs.Runs.{Flies, live_run, live_runs}
-use Rattle.ph_doings.specs.Standings.{Live, Stands, is_challenged, is_unsettled_of, standing_of}
+use Rattle.ph_doings.specs.Standings.{Live, Parked, Stands, is_challenged, is_parked, is_unsettled_of, standing_of}
 use Rattle.ph_doings.specs.Statuses.{status_of}
 
 -- different attempts have different references: those which began an attempt of one reference are one doing
@@ -65,3 +67,33 @@ pub record KeepsUnsettled (past : List Doing) : Type 0 where
 
 abbrev pub AttemptsAreUnsettled : Type 0
 AttemptsAreUnsettled = (past : List Doing) → IsLawful past → KeepsUnsettled past
+
+-- of the parked attempts this order's was last parked earliest, and began with this order
+pub record IsFirstParked (past : List Doing) (order : Order) : Type 0 where
+  pub intent : ℕ
+  pub standing : standing_of past order.reference ≡ Stands intent order Parked
+  pub earliest : (reference : ℕ) → is_parked (standing_of past reference) ≡ true → reference ≢ order.reference
+      → parked_at past order.reference < parked_at past reference
+
+-- the first parked one, or that none is parked
+abbrev pub FirstOf : List Doing → Option Order → Type 0
+FirstOf past (Some order) = IsFirstParked past order
+FirstOf past None = (reference : ℕ) → is_parked (standing_of past reference) ≡ false
+
+-- the first of the parked attempts is that whose last park stands earliest, and none where none is parked
+abbrev pub FirstParkedIsEarliest : Type 0
+FirstParkedIsEarliest = (past : List Doing) → IsLawful past → FirstOf past (first_parked past)
+
+-- the live run of a caller with a number is found among the attempts that are kept, and nothing else is
+pub record FindsRuns (past : List Doing) : Type 0 where
+  pub found : (caller run : ℕ) (flight : Flight) → run_in (attempts_after past) caller run ≡ Some flight
+      → (live_run past run ≡ Flies flight) × (flight.run ≡ run) × (flight.caller ≡ caller)
+  pub finds : (run : ℕ) (flight : Flight) → live_run past run ≡ Flies flight → run_in (attempts_after past) flight.caller run ≡ Some flight
+
+abbrev pub RunsAreFound : Type 0
+RunsAreFound = (past : List Doing) → IsLawful past → FindsRuns past
+
+-- whatever is kept, the live run of a caller stays it through every step of other callers' runs
+abbrev pub RunsStay : Type 0
+RunsStay = (attempts : List Attempt) (step : Step) (caller run : ℕ) (flight : Flight) → run_in attempts caller run ≡ Some flight
+    → (flight_of step).caller ≢ caller → run_in (after attempts step) caller run ≡ Some flight

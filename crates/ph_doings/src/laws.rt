@@ -1,6 +1,6 @@
 //! Laws of what entries do to payment intents and attempts, each the contract of a function that does nothing. They
 //! speak of every list of doings of which each may come after those before it.
-ghost use Rattle.ph_doings.specs.Laws.{AllButTheLastWereChallenged, AttemptsAreUnsettled, LiveIsRun, ProcessingHasOneAttempt, ReferencesDiffer};
+ghost use Rattle.ph_doings.specs.Laws.{AllButTheLastWereChallenged, AttemptsAreUnsettled, FirstParkedIsEarliest, LiveIsRun, ProcessingHasOneAttempt, ReferencesDiffer, RunsAreFound, RunsStay};
 
 /// Different attempts have different references.
 pub fn references_differ()
@@ -27,4 +27,19 @@ pub fn live_is_run()
 /// the order of their last parks.
 pub fn attempts_are_unsettled()
     ensures { AttemptsAreUnsettled }
+{}
+
+/// The first of the parked attempts is that whose last park stands earliest, and there is none where none is parked.
+pub fn first_parked_is_earliest()
+    ensures { FirstParkedIsEarliest }
+{}
+
+/// A caller finds its live run of a number among the attempts that are kept, and finds nothing else.
+pub fn runs_are_found()
+    ensures { RunsAreFound }
+{}
+
+/// What a caller may do with its live run it may still do after any step of other callers, whatever the attempts.
+pub fn runs_stay()
+    ensures { RunsStay }
 {}

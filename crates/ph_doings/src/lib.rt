@@ -4,6 +4,6 @@
 mod laws;
 
 pub use laws::{
-    all_but_the_last_were_challenged, attempts_are_unsettled, live_is_run,
-    processing_has_one_attempt, references_differ,
+    all_but_the_last_were_challenged, attempts_are_unsettled, first_parked_is_earliest,
+    live_is_run, processing_has_one_attempt, references_differ, runs_are_found, runs_stay,
 };
