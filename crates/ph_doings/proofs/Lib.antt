@@ -9,3 +9,4 @@ pub mod LawProofs
 pub mod KeptLists
 pub mod Queue
 pub mod FoundRuns
+pub mod RecordLemmas

@@ -7,3 +7,5 @@ pub mod Parks
 pub mod Kept
 pub mod Lawful
 pub mod Laws
+pub mod Records
+pub mod RecordLaws

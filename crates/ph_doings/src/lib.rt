@@ -2,8 +2,10 @@
 #![tactic(auto)]
 
 mod laws;
+mod records;
 
 pub use laws::{
     all_but_the_last_were_challenged, attempts_are_unsettled, first_parked_is_earliest,
     live_is_run, processing_has_one_attempt, references_differ, runs_are_found, runs_stay,
 };
+pub use records::{key_adds_none, repeat_finds, saved_stays};
