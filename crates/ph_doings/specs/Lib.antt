@@ -9,3 +9,4 @@ pub mod Lawful
 pub mod Laws
 pub mod Records
 pub mod RecordLaws
+pub mod Worked

@@ -3,9 +3,11 @@
 
 mod laws;
 mod records;
+mod worked;
 
 pub use laws::{
     all_but_the_last_were_challenged, attempts_are_unsettled, first_parked_is_earliest,
     live_is_run, processing_has_one_attempt, references_differ, runs_are_found, runs_stay,
 };
 pub use records::{key_adds_none, repeat_finds, saved_stays};
+pub use worked::{a_challenge, two_parks};
