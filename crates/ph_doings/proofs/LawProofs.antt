@@ -5,7 +5,7 @@ use Rattle.ph_attempts.specs.declared.flights.Flight.{Flight}
 use Rattle.ph_rows.specs.declared.orders.Order.{Order}
 use Rattle.ph_doings.specs.Confirmations.{last_of}
 use Rattle.ph_doings.specs.Doings.{Doing}
-use Rattle.ph_doings.specs.Laws.{AllButTheLastWereChallenged, Finds, HasOneUnsettled, IsFlown, LiveIsRun, ProcessingHasOneAttempt, ReferencesDiffer}
+use Rattle.ph_doings.specs.Laws.{AllButTheLastWereChallenged, ApprovedOnce, Finds, HasOneUnsettled, IsFlown, LiveIsRun, ProcessingHasOneAttempt, ReferencesDiffer}
 use Rattle.ph_doings.specs.Runs.{Run, NoRun, Flies, live_run, order_flown, run_of}
 use Rattle.ph_doings.specs.Standings.{Live, Parked, Settled, Standing, NotBegun, Stands, live_order, standing_of}
 use Rattle.ph_doings.proofs.Kept.{sound}
@@ -25,6 +25,9 @@ processing_has_one_attempt past lawful = one_unsettled past (sound past lawful).
 
 pub all_but_the_last_were_challenged : AllButTheLastWereChallenged
 all_but_the_last_were_challenged past lawful = (sound past lawful).chains.challenged
+
+pub approved_once : ApprovedOnce
+approved_once past lawful = (sound past lawful).approvals.once
 
 -- a live attempt's payment intent is processing
 found_at : (past : List Doing) (flight : Flight) → HasNewestUnsettled past → (standing : Standing)

@@ -2,6 +2,7 @@ pub mod Sound
 pub mod References
 pub mod Unsettled
 pub mod LiveRuns
+pub mod Approvals
 pub mod Chains
 pub mod Tables
 pub mod Kept

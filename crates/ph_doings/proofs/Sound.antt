@@ -1,13 +1,14 @@
 -- What every doing that may come keeps.
-use Rattle.std.specs.Prelude.{◌≡◌, ℕ, ◌<◌, ◌≤◌, true, List, [], ◌∷◌, length, Some}
+use Rattle.std.specs.Prelude.{◌≡◌, ℕ, ◌<◌, ◌≤◌, Bool, true, false, List, [], ◌∷◌, length, Option, Some, None}
 use Rattle.std.specs.List.{list_all}
 use Rattle.ph_attempts.specs.declared.flights.Flight.{Flight}
+use Rattle.ph_rows.specs.declared.intents.IntentStatus.{IntentStatus}
 use Rattle.ph_rows.specs.declared.intents.IntentStatus.TheVariants as status
 use Rattle.ph_rows.specs.declared.orders.Order.{Order}
 use Rattle.ph_doings.specs.Confirmations.{all_but_first, attempts_of_confirmation, begun_at, confirmation_of, last_of}
 use Rattle.ph_doings.specs.Doings.{Doing}
 use Rattle.ph_doings.specs.Runs.{NoRun, Flies, live_run, order_flown, run_of}
-use Rattle.ph_doings.specs.Standings.{has_begun, is_challenged, is_unsettled_of, live_order, standing_of}
+use Rattle.ph_doings.specs.Standings.{has_begun, is_approved_of, is_challenged, is_unsettled_of, live_order, standing_of}
 use Rattle.ph_doings.specs.Statuses.{status_of}
 
 -- each attempt that was begun stands, and was begun once
@@ -36,6 +37,23 @@ pub record HasLiveRuns (past : List Doing) : Type 0 where
   pub flown : (reference : ℕ) (order : Order) → live_order (standing_of past reference) ≡ Some order
       → order_flown (live_run past (run_of past reference)) ≡ Some order
 
+-- a payment intent that is paid, held or canceled, and so is never asked for again
+abbrev pub is_over : Option IntentStatus → Bool
+is_over None = false
+is_over (Some status.RequiresPaymentMethod) = false
+is_over (Some status.RequiresConfirmation) = false
+is_over (Some status.RequiresAction) = false
+is_over (Some status.Processing) = false
+is_over (Some status.RequiresCapture) = true
+is_over (Some status.Succeeded) = true
+is_over (Some status.Canceled) = true
+
+-- a payment intent of which an attempt was approved is over, and no other of its attempts was
+pub record HasOneApproval (past : List Doing) : Type 0 where
+  pub over : (intent reference : ℕ) → is_approved_of intent (standing_of past reference) ≡ true → is_over (status_of past intent) ≡ true
+  pub once : (intent reference other : ℕ) → is_approved_of intent (standing_of past reference) ≡ true
+      → is_approved_of intent (standing_of past other) ≡ true → reference ≡ other
+
 -- the first, or 0
 abbrev pub first_or_zero : List ℕ → ℕ
 first_or_zero [] = 0
@@ -63,3 +81,4 @@ pub record IsSound (past : List Doing) : Type 0 where
   pub unsettled : HasNewestUnsettled past
   pub live : HasLiveRuns past
   pub chains : HasChains past
+  pub approvals : HasOneApproval past

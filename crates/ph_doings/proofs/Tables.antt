@@ -3,6 +3,7 @@ use Rattle.std.proofs.Common.{◌≡◌, true, false, Option, Some, None, refl}
 use Rattle.ph_rows.specs.declared.intents.IntentStatus.{IntentStatus}
 use Rattle.ph_rows.specs.declared.intents.IntentStatus.TheVariants as status
 use Rattle.ph_doings.specs.Doings.{Cause, Confirms, Authenticates}
+use Rattle.ph_doings.proofs.Sound.{is_over}
 use Rattle.ph_doings.specs.Statuses.{may_authenticate, may_begin, may_put}
 
 -- a payment intent that is processing isn't put anywhere
@@ -45,3 +46,32 @@ authenticates_waiting (Some status.Processing) may = absurd (cc)
 authenticates_waiting (Some status.RequiresCapture) may = absurd (cc)
 authenticates_waiting (Some status.Succeeded) may = absurd (cc)
 authenticates_waiting (Some status.Canceled) may = absurd (cc)
+
+-- a payment intent that is over stays so where it is put
+pub over_stays : (old : Option IntentStatus) (put : IntentStatus) → may_put old put ≡ true → is_over old ≡ true → is_over (Some put) ≡ true
+over_stays None put may over = absurd (cc)
+over_stays (Some status.RequiresPaymentMethod) put may over = absurd (cc)
+over_stays (Some status.RequiresConfirmation) put may over = absurd (cc)
+over_stays (Some status.RequiresAction) put may over = absurd (cc)
+over_stays (Some status.Processing) put may over = absurd (cc)
+over_stays (Some status.RequiresCapture) status.RequiresPaymentMethod may over = absurd (cc)
+over_stays (Some status.RequiresCapture) status.RequiresConfirmation may over = absurd (cc)
+over_stays (Some status.RequiresCapture) status.RequiresAction may over = absurd (cc)
+over_stays (Some status.RequiresCapture) status.Processing may over = absurd (cc)
+over_stays (Some status.RequiresCapture) status.RequiresCapture may over = refl
+over_stays (Some status.RequiresCapture) status.Succeeded may over = refl
+over_stays (Some status.RequiresCapture) status.Canceled may over = refl
+over_stays (Some status.Succeeded) put may over = absurd (cc)
+over_stays (Some status.Canceled) put may over = absurd (cc)
+
+-- no attempt begins of a payment intent that is over
+pub not_begun_when_over : (cause : Cause) (old : Option IntentStatus) → may_begin cause old ≡ true → is_over old ≡ true → ⊥
+not_begun_when_over Confirms None may over = cc
+not_begun_when_over Confirms (Some status.RequiresPaymentMethod) may over = cc
+not_begun_when_over Confirms (Some status.RequiresConfirmation) may over = cc
+not_begun_when_over Confirms (Some status.RequiresAction) may over = cc
+not_begun_when_over Confirms (Some status.Processing) may over = cc
+not_begun_when_over Confirms (Some status.RequiresCapture) may over = cc
+not_begun_when_over Confirms (Some status.Succeeded) may over = cc
+not_begun_when_over Confirms (Some status.Canceled) may over = cc
+not_begun_when_over Authenticates old may over = let no_place : false ≡ true = rw (authenticates_waiting old may) at over in cc

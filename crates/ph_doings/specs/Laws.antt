@@ -12,7 +12,7 @@ use Rattle.ph_doings.specs.Kept.{after, attempts_after, live_in, parked_in, run_
 use Rattle.ph_doings.specs.Lawful.{IsLawful}
 use Rattle.ph_doings.specs.Parks.{first_parked, parked_at, parked_attempts}
 use Rattle.ph_doings.specs.Runs.{Flies, live_run, live_runs}
-use Rattle.ph_doings.specs.Standings.{Live, Parked, Stands, is_challenged, is_parked, is_unsettled_of, standing_of}
+use Rattle.ph_doings.specs.Standings.{Live, Parked, Stands, is_approved_of, is_challenged, is_parked, is_unsettled_of, standing_of}
 use Rattle.ph_doings.specs.Statuses.{status_of}
 
 -- different attempts have different references: those which began an attempt of one reference are one doing
@@ -35,6 +35,12 @@ abbrev pub AllButTheLastWereChallenged : Type 0
 AllButTheLastWereChallenged = (past : List Doing) → IsLawful past → (confirmation : ℕ)
     → list_all (λ reference. is_challenged (standing_of past reference))
     (all_but_first (attempts_of_confirmation past confirmation)) ≡ true
+
+-- a payment intent is approved at most once: no two of its attempts are settled with an approval
+abbrev pub ApprovedOnce : Type 0
+ApprovedOnce = (past : List Doing) → IsLawful past → (intent reference other : ℕ)
+    → is_approved_of intent (standing_of past reference) ≡ true → is_approved_of intent (standing_of past other) ≡ true
+    → reference ≡ other
 
 -- what the run of a flight finds: its attempt is live under its order, and is of a payment intent that is processing
 pub record Finds (past : List Doing) (flight : Flight) : Type 0 where

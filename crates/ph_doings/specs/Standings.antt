@@ -72,3 +72,12 @@ live_order NotBegun = None
 live_order (Stands intent order Live) = Some order
 live_order (Stands intent order Parked) = None
 live_order (Stands intent order (Settled ruling)) = None
+
+-- it is an attempt of this payment intent that is settled with an approval
+abbrev pub is_approved_of : ℕ → Standing → Bool
+is_approved_of intent NotBegun = false
+is_approved_of intent (Stands of order Live) = false
+is_approved_of intent (Stands of order Parked) = false
+is_approved_of intent (Stands of order (Settled ruling.Approved)) = intent == of
+is_approved_of intent (Stands of order (Settled (ruling.Declined decline))) = false
+is_approved_of intent (Stands of order (Settled ruling.Challenge)) = false

@@ -1,6 +1,6 @@
 //! Laws of what entries do to payment intents and attempts, each the contract of a function that does nothing. They
 //! speak of every list of doings of which each may come after those before it.
-ghost use Rattle.ph_doings.specs.Laws.{AllButTheLastWereChallenged, AttemptsAreUnsettled, FirstParkedIsEarliest, LiveIsRun, ProcessingHasOneAttempt, ReferencesDiffer, RunsAreFound, RunsStay};
+ghost use Rattle.ph_doings.specs.Laws.{AllButTheLastWereChallenged, ApprovedOnce, AttemptsAreUnsettled, FirstParkedIsEarliest, LiveIsRun, ProcessingHasOneAttempt, ReferencesDiffer, RunsAreFound, RunsStay};
 
 /// Different attempts have different references.
 pub fn references_differ()
@@ -15,6 +15,11 @@ pub fn processing_has_one_attempt()
 /// Of a confirmation's attempts all but the last are settled with a challenge.
 pub fn all_but_the_last_were_challenged()
     ensures { AllButTheLastWereChallenged }
+{}
+
+/// A payment intent is approved at most once, whatever is confirmed, taken up again or authenticated.
+pub fn approved_once()
+    ensures { ApprovedOnce }
 {}
 
 /// An attempt is live exactly where a run of it is, never has two live runs, and is of a payment intent that is

@@ -6,8 +6,9 @@ mod records;
 mod worked;
 
 pub use laws::{
-    all_but_the_last_were_challenged, attempts_are_unsettled, first_parked_is_earliest,
-    live_is_run, processing_has_one_attempt, references_differ, runs_are_found, runs_stay,
+    all_but_the_last_were_challenged, approved_once, attempts_are_unsettled,
+    first_parked_is_earliest, live_is_run, processing_has_one_attempt, references_differ,
+    runs_are_found, runs_stay,
 };
 pub use records::{key_adds_none, repeat_finds, saved_stays};
 pub use worked::{a_challenge, two_parks};
