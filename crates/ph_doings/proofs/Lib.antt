@@ -1,3 +1,4 @@
+pub mod RowLemmas
 pub mod Sound
 pub mod References
 pub mod Unsettled

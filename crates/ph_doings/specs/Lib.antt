@@ -9,4 +9,5 @@ pub mod Lawful
 pub mod Laws
 pub mod Records
 pub mod RecordLaws
+pub mod Rows
 pub mod Worked
