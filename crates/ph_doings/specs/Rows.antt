@@ -4,6 +4,8 @@ use Rattle.std.specs.Prelude.{◌≡◌, ℕ, List, [], ◌∷◌, ◌++◌, Opt
 use Rattle.std.specs.List.{filter_map}
 use Rattle.ph_base.specs.declared.acquirer.Ruling.TheVariants as ruling
 use Rattle.ph_rows.specs.Rows.{latest_of}
+use Rattle.ph_rows.specs.Sound.{IsInOrder}
+use Rattle.ph_rows.specs.Views.{ViewState}
 use Rattle.ph_rows.specs.declared.attempts.Attempt.{Attempt}
 use Rattle.ph_rows.specs.declared.attempts.AttemptState.{AttemptState}
 use Rattle.ph_rows.specs.declared.attempts.AttemptState.TheVariants as state
@@ -81,3 +83,31 @@ pub record SayPast (past : List Doing) (rows : List Row) : Type 0 where
 -- rows that show the past say it
 abbrev pub RowsSayPast : Type 0
 RowsSayPast = (past : List Doing) (rows : List Row) → shown_in rows ≡ shown_of past → SayPast past rows
+
+-- a payment intent has a present version, in this status
+pub record HasIntent (rows : List Row) (object : ℕ) (status : IntentStatus) : Type 0 where
+  pub row : Row
+  pub intent : Intent
+  pub latest : latest_of object rows ≡ Some row
+  pub item_is : row.item ≡ item.Intent intent
+  pub status_is : intent.status ≡ status
+
+-- an attempt has a present version, which says where it stands
+pub record HasAttempt (rows : List Row) (object intent : ℕ) (order : Order) (state : State) : Type 0 where
+  pub row : Row
+  pub attempt : Attempt
+  pub latest : latest_of object rows ≡ Some row
+  pub item_is : row.item ≡ item.Attempt attempt
+  pub intent_is : attempt.intent ≡ intent
+  pub order_is : attempt.order ≡ order
+  pub state_is : attempt.state ≡ state_shown state
+
+-- each payment intent and attempt of the past has a present version
+pub record AreInRows (past : List Doing) (rows : List Row) : Type 0 where
+  pub intent : (object : ℕ) (status : IntentStatus) → status_of past object ≡ Some status → HasIntent rows object status
+  pub attempt : (object intent : ℕ) (order : Order) (state : State) → standing_of past object ≡ Stands intent order state
+      → HasAttempt rows object intent order state
+
+-- rows in their order that show the past have all of it
+abbrev pub PastIsInRows : Type 0
+PastIsInRows = (past : List Doing) (state : ViewState) → IsInOrder state → shown_in state.rows ≡ shown_of past → AreInRows past state.rows
