@@ -101,7 +101,7 @@ finds_up_to past run flight (suc number) holds is le = at (run == suc number) re
     at false e more = find-front (is_run flight.caller run) (live_up_to past number) (flights_in (live_run past (suc number))) flight
         (more (grind (arith, nat_tests)))
 
-run_known : (past : List Doing) (run : ℕ) (flight : Flight) → HasLiveRuns past → live_run past run ≡ Flies flight → run ≤ length past
+pub run_known : (past : List Doing) (run : ℕ) (flight : Flight) → HasLiveRuns past → live_run past run ≡ Flies flight → run ≤ length past
 run_known past run flight holds is = grind (arith, nat_tests, holds.known run)
 
 pub runs_are_found : RunsAreFound

@@ -96,7 +96,7 @@ live_up_to-same past now (suc number) same =
     rw (others, last) refl
 
 -- a run that begins at the next place comes behind the others
-begun_last : (past : List Doing) (doing : Doing) (flight : Flight) → ((run : ℕ) → live_run (doing ∷ past) run ≡ cond (run == flight.run) (Flies flight) (live_run past run))
+pub begun_last : (past : List Doing) (doing : Doing) (flight : Flight) → ((run : ℕ) → live_run (doing ∷ past) run ≡ cond (run == flight.run) (Flies flight) (live_run past run))
     → flight.run ≡ suc (length past) → live_runs (doing ∷ past) ≡ live_runs past ++ flight ∷ []
 begun_last past doing flight step place =
     let others : live_up_to (doing ∷ past) (length past) ≡ live_up_to past (length past) =
@@ -105,7 +105,7 @@ begun_last past doing flight step place =
     rw (others, new) refl
 
 -- where no run changes and none begins at the next place, the live runs stay
-unchanged : (past : List Doing) (doing : Doing) → ((run : ℕ) → live_run (doing ∷ past) run ≡ live_run past run)
+pub unchanged : (past : List Doing) (doing : Doing) → ((run : ℕ) → live_run (doing ∷ past) run ≡ live_run past run)
     → live_run past (suc (length past)) ≡ NoRun → live_runs (doing ∷ past) ≡ live_runs past
 unchanged past doing step none =
     let others : live_up_to (doing ∷ past) (length past) ≡ live_up_to past (length past) =
@@ -130,7 +130,7 @@ ended_up_to past now flight (suc number) step =
     (sym (filter-append (λ other. not (is_same_run flight other)) (live_up_to past number) (flights_in (live_run past (suc number)))))
 
 -- an end drops its run
-ended_runs : (past : List Doing) (doing : Doing) (flight : Flight) → ((run : ℕ) → live_run (doing ∷ past) run ≡ ended_by flight (live_run past run))
+pub ended_runs : (past : List Doing) (doing : Doing) (flight : Flight) → ((run : ℕ) → live_run (doing ∷ past) run ≡ ended_by flight (live_run past run))
     → live_run past (suc (length past)) ≡ NoRun → live_runs (doing ∷ past) ≡ without_run flight (live_runs past)
 ended_runs past doing flight step none =
     let new : live_run (doing ∷ past) (suc (length past)) ≡ NoRun = step (suc (length past)) ∙ ap (ended_by flight) none in

@@ -9,6 +9,7 @@ pub mod Tables
 pub mod Kept
 pub mod LawProofs
 pub mod KeptLists
+pub mod Counted
 pub mod Queue
 pub mod FoundRuns
 pub mod RecordLemmas

@@ -1,5 +1,5 @@
 -- The laws of attempts, over every past in which each doing may come after those before it.
-use Rattle.std.specs.Prelude.{◌≡◌, ◌≢◌, ℕ, ◌<◌, ◌↔◌, true, false, List, Option, Some, None}
+use Rattle.std.specs.Prelude.{◌≡◌, ◌≢◌, ℕ, ◌+◌, ◌<◌, ◌↔◌, true, false, List, ◌∷◌, length, Option, Some, None}
 use Rattle.std.specs.List.{list_all}
 use Rattle.ph_attempts.specs.Attempts.{Step, flight_of}
 use Rattle.ph_attempts.specs.declared.flights.Attempt.{Attempt}
@@ -11,7 +11,7 @@ use Rattle.ph_doings.specs.Doings.{Doing}
 use Rattle.ph_doings.specs.Kept.{after, attempts_after, live_in, parked_in, run_in}
 use Rattle.ph_doings.specs.Lawful.{IsLawful}
 use Rattle.ph_doings.specs.Parks.{first_parked, parked_at, parked_attempts}
-use Rattle.ph_doings.specs.Runs.{Flies, live_run, live_runs}
+use Rattle.ph_doings.specs.Runs.{Flies, live_run, live_runs, runs_begun, runs_ended}
 use Rattle.ph_doings.specs.Standings.{Live, Parked, Stands, is_approved_of, is_challenged, is_parked, is_unsettled_of, standing_of}
 use Rattle.ph_doings.specs.Statuses.{status_of}
 
@@ -103,3 +103,8 @@ RunsAreFound = (past : List Doing) → IsLawful past → FindsRuns past
 abbrev pub RunsStay : Type 0
 RunsStay = (attempts : List Attempt) (step : Step) (caller run : ℕ) (flight : Flight) → run_in attempts caller run ≡ Some flight
     → (flight_of step).caller ≢ caller → run_in (after attempts step) caller run ≡ Some flight
+
+-- a doing that may come leaves as many live runs as there were, with those that it begins and without those that it ends
+abbrev pub RunsAreCounted : Type 0
+RunsAreCounted = (past : List Doing) (doing : Doing) → IsLawful (doing ∷ past)
+    → length (live_runs (doing ∷ past)) + runs_ended doing ≡ length (live_runs past) + runs_begun doing

@@ -66,3 +66,23 @@ live_up_to past (suc number) = live_up_to past number ++ flights_in (live_run pa
 -- the live runs, in the order in which they began: a run has the number of the place where it begins
 abbrev pub live_runs : List Doing → List Flight
 live_runs past = live_up_to past (length past)
+
+-- how many runs a doing begins
+abbrev pub runs_begun : Doing → ℕ
+runs_begun Leaves = 0
+runs_begun (Puts intent status) = 0
+runs_begun (Edits intent status) = 0
+runs_begun (Begins cause intent flight) = 1
+runs_begun (Resumes intent flight) = 1
+runs_begun (Parks intent flight) = 0
+runs_begun (Settles intent flight capture ruling) = 0
+
+-- how many runs a doing ends
+abbrev pub runs_ended : Doing → ℕ
+runs_ended Leaves = 0
+runs_ended (Puts intent status) = 0
+runs_ended (Edits intent status) = 0
+runs_ended (Begins cause intent flight) = 0
+runs_ended (Resumes intent flight) = 0
+runs_ended (Parks intent flight) = 1
+runs_ended (Settles intent flight capture ruling) = 1

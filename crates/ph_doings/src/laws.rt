@@ -1,6 +1,6 @@
 //! Laws of what entries do to payment intents and attempts, each the contract of a function that does nothing. They
 //! speak of every list of doings of which each may come after those before it.
-ghost use Rattle.ph_doings.specs.Laws.{AllButTheLastWereChallenged, ApprovedOnce, AttemptsAreUnsettled, FirstParkedIsEarliest, LiveIsRun, ProcessingHasOneAttempt, ReferencesDiffer, RunsAreFound, RunsStay};
+ghost use Rattle.ph_doings.specs.Laws.{AllButTheLastWereChallenged, ApprovedOnce, AttemptsAreUnsettled, FirstParkedIsEarliest, LiveIsRun, ProcessingHasOneAttempt, ReferencesDiffer, RunsAreCounted, RunsAreFound, RunsStay};
 
 /// Different attempts have different references.
 pub fn references_differ()
@@ -47,4 +47,9 @@ pub fn runs_are_found()
 /// What a caller may do with its live run it may still do after any step of other callers, whatever the attempts.
 pub fn runs_stay()
     ensures { RunsStay }
+{}
+
+/// As many runs are live as there were, with those that an entry begins and without those that it ends.
+pub fn runs_are_counted()
+    ensures { RunsAreCounted }
 {}
