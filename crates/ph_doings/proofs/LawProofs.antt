@@ -3,11 +3,11 @@ use Rattle.std.proofs.Common.{◌≡◌, ℕ, List, Some, refl, sym, ap, ◌∙�
 use Rattle.std.proofs.lemmas.Bool.Decides.{nat_tests}
 use Rattle.ph_attempts.specs.declared.flights.Flight.{Flight}
 use Rattle.ph_rows.specs.declared.orders.Order.{Order}
-use Rattle.ph_doings.specs.Confirmations.{last_of}
 use Rattle.ph_doings.specs.Doings.{Doing}
 use Rattle.ph_doings.specs.Laws.{AllButTheLastWereChallenged, ApprovedOnce, Finds, HasOneUnsettled, IsFlown, LiveIsRun, ProcessingHasOneAttempt, ReferencesDiffer}
-use Rattle.ph_doings.specs.Runs.{Run, NoRun, Flies, live_run, order_flown, run_of}
-use Rattle.ph_doings.specs.Standings.{Live, Parked, Settled, Standing, NotBegun, Stands, live_order, standing_of}
+use Rattle.ph_doings.specs.Runs.{Run, NoRun, Flies, live_run}
+use Rattle.ph_doings.specs.Standings.{Live, Parked, Settled, Standing, NotBegun, Stands, standing_of}
+use Rattle.ph_doings.proofs.Newest.{last_of, live_order, order_flown, run_of}
 use Rattle.ph_doings.proofs.Kept.{sound}
 use Rattle.ph_doings.proofs.Sound.{HasNewestUnsettled, HasLiveRuns}
 

@@ -1,3 +1,4 @@
+pub mod Newest
 pub mod RowLemmas
 pub mod Sound
 pub mod References

@@ -5,11 +5,12 @@ use Rattle.ph_attempts.specs.declared.flights.Flight.{Flight}
 use Rattle.ph_rows.specs.declared.intents.IntentStatus.{IntentStatus}
 use Rattle.ph_rows.specs.declared.intents.IntentStatus.TheVariants as status
 use Rattle.ph_rows.specs.declared.orders.Order.{Order}
-use Rattle.ph_doings.specs.Confirmations.{all_but_first, attempts_of_confirmation, begun_at, confirmation_of, last_of}
+use Rattle.ph_doings.specs.Confirmations.{all_but_first, attempts_of_confirmation, begun_at, confirmation_of}
 use Rattle.ph_doings.specs.Doings.{Doing}
-use Rattle.ph_doings.specs.Runs.{NoRun, Flies, live_run, order_flown, run_of}
-use Rattle.ph_doings.specs.Standings.{has_begun, is_approved_of, is_challenged, is_unsettled_of, live_order, standing_of}
+use Rattle.ph_doings.specs.Runs.{NoRun, Flies, live_run}
+use Rattle.ph_doings.specs.Standings.{is_approved_of, is_challenged, is_unsettled_of, standing_of}
 use Rattle.ph_doings.specs.Statuses.{status_of}
+use Rattle.ph_doings.proofs.Newest.{has_begun, last_of, live_order, order_flown, run_of}
 
 -- each attempt that was begun stands, and was begun once
 pub record HasOwnReferences (past : List Doing) : Type 0 where

@@ -17,21 +17,6 @@ abbrev pub begun_at : List Doing → ℕ → Option ℕ
 begun_at [] place = None
 begun_at (doing ∷ past) place = if place == suc (length past) then begun_by doing else begun_at past place
 
--- the newest attempt of a payment intent after a doing
-abbrev pub last_after : Doing → ℕ → ℕ → ℕ
-last_after Leaves intent old = old
-last_after (Puts of status) intent old = old
-last_after (Edits of status) intent old = old
-last_after (Begins cause of flight) intent old = if intent == of then flight.order.reference else old
-last_after (Resumes of flight) intent old = old
-last_after (Parks of flight) intent old = old
-last_after (Settles of flight capture ruling) intent old = old
-
--- the newest attempt of a payment intent, or 0
-abbrev pub last_of : List Doing → ℕ → ℕ
-last_of [] intent = 0
-last_of (doing ∷ past) intent = last_after doing intent (last_of past intent)
-
 -- the last confirmation of a payment intent after the doing of a place
 abbrev pub confirmation_after : Doing → ℕ → ℕ → ℕ → ℕ
 confirmation_after Leaves place intent old = old

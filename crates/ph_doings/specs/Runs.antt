@@ -1,7 +1,6 @@
 -- Runs of attempts, read off the past. Places count from 1, so the newest doing stands at the past's length.
-use Rattle.std.specs.Prelude.{ℕ, zero, suc, ◌==◌, ◌&&◌, Bool, if◌then◌else◌, List, [], ◌∷◌, ◌++◌, length, Option, Some, None}
+use Rattle.std.specs.Prelude.{ℕ, zero, suc, ◌==◌, ◌&&◌, Bool, if◌then◌else◌, List, [], ◌∷◌, ◌++◌, length}
 use Rattle.ph_attempts.specs.declared.flights.Flight.{Flight}
-use Rattle.ph_rows.specs.declared.orders.Order.{Order}
 use Rattle.ph_doings.specs.Doings.{Doing, Leaves, Puts, Edits, Begins, Resumes, Parks, Settles}
 
 -- a run: not live, or the live one of a number
@@ -32,26 +31,6 @@ run_after (Settles intent flight capture ruling) run old = ended_by flight old
 abbrev pub live_run : List Doing → ℕ → Run
 live_run [] run = NoRun
 live_run (doing ∷ past) run = run_after doing run (live_run past run)
-
--- the newest run of an attempt after a doing
-abbrev pub newest_run_after : Doing → ℕ → ℕ → ℕ
-newest_run_after Leaves reference old = old
-newest_run_after (Puts intent status) reference old = old
-newest_run_after (Edits intent status) reference old = old
-newest_run_after (Begins cause intent flight) reference old = if reference == flight.order.reference then flight.run else old
-newest_run_after (Resumes intent flight) reference old = if reference == flight.order.reference then flight.run else old
-newest_run_after (Parks intent flight) reference old = old
-newest_run_after (Settles intent flight capture ruling) reference old = old
-
--- the newest run of an attempt, or 0
-abbrev pub run_of : List Doing → ℕ → ℕ
-run_of [] reference = 0
-run_of (doing ∷ past) reference = newest_run_after doing reference (run_of past reference)
-
--- the order of a run that is live
-abbrev pub order_flown : Run → Option Order
-order_flown NoRun = None
-order_flown (Flies flight) = Some flight.order
 
 -- the flight of a run that is live
 abbrev pub flights_in : Run → List Flight

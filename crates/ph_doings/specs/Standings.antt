@@ -1,5 +1,5 @@
 -- Where each attempt stands, read off the past.
-use Rattle.std.specs.Prelude.{ℕ, ◌==◌, ◌&&◌, Bool, true, false, if◌then◌else◌, List, [], ◌∷◌, Option, Some, None}
+use Rattle.std.specs.Prelude.{ℕ, ◌==◌, ◌&&◌, Bool, true, false, if◌then◌else◌, List, [], ◌∷◌}
 use Rattle.ph_base.specs.declared.acquirer.Ruling.{Ruling}
 use Rattle.ph_base.specs.declared.acquirer.Ruling.TheVariants as ruling
 use Rattle.ph_rows.specs.declared.orders.Order.{Order}
@@ -34,11 +34,6 @@ abbrev pub standing_of : List Doing → ℕ → Standing
 standing_of [] reference = NotBegun
 standing_of (doing ∷ past) reference = standing_after doing reference (standing_of past reference)
 
--- the attempt has begun
-abbrev pub has_begun : Standing → Bool
-has_begun NotBegun = false
-has_begun (Stands intent order state) = true
-
 -- no acquirer has ruled on the attempt yet
 abbrev pub is_unsettled : State → Bool
 is_unsettled Live = true
@@ -65,13 +60,6 @@ is_parked NotBegun = false
 is_parked (Stands intent order Live) = false
 is_parked (Stands intent order Parked) = true
 is_parked (Stands intent order (Settled ruling)) = false
-
--- the order of an attempt that is live
-abbrev pub live_order : Standing → Option Order
-live_order NotBegun = None
-live_order (Stands intent order Live) = Some order
-live_order (Stands intent order Parked) = None
-live_order (Stands intent order (Settled ruling)) = None
 
 -- it is an attempt of this payment intent that is settled with an approval
 abbrev pub is_approved_of : ℕ → Standing → Bool
