@@ -1,0 +1,16 @@
+pub mod Newest
+pub mod RowLemmas
+pub mod Sound
+pub mod References
+pub mod Unsettled
+pub mod LiveRuns
+pub mod Approvals
+pub mod Chains
+pub mod Tables
+pub mod Kept
+pub mod LawProofs
+pub mod KeptLists
+pub mod Counted
+pub mod Queue
+pub mod FoundRuns
+pub mod RecordLemmas
