@@ -9,9 +9,11 @@ use Rattle.ph_items.specs.declared.intents.CaptureMethod.{CaptureMethod}
 use Rattle.ph_items.specs.declared.intents.IntentStatus.{IntentStatus}
 use Rattle.ph_items.specs.declared.intents.IntentStatus.TheVariants as status
 use Rattle.ph_doings.specs.Confirmations.{all_but_first, attempts_of_confirmation, confirmation_of}
-use Rattle.ph_doings.specs.Doings.{Cause, Confirms, Authenticates, Doing, Leaves, Puts, Edits, Begins, Resumes, Parks, Settles}
+use Rattle.ph_facts.specs.Touches.{Cause, Confirms, Authenticates}
+use Rattle.ph_doings.specs.Doings.{Doing, Leaves, Puts, Edits, Begins, Resumes, Parks, Settles}
 use Rattle.ph_doings.specs.Standings.{Live, Parked, NotBegun, Stands, is_challenged, standing_of}
-use Rattle.ph_doings.specs.Statuses.{may_begin, status_of}
+use Rattle.ph_facts.specs.Statuses.{may_begin}
+use Rattle.ph_doings.specs.Statuses.{status_of}
 use Rattle.ph_doings.proofs.Newest.{last_of}
 use Rattle.ph_doings.proofs.Tables.{authenticates_waiting}
 use Rattle.ph_doings.proofs.Sound.{HasChains, HasNewestUnsettled, first_or_zero}

@@ -10,7 +10,8 @@ use Rattle.ph_items.specs.declared.orders.Order.{Order}
 use Rattle.ph_attempts.specs.declared.flights.Flight.{Flight}
 use Rattle.ph_attempts.specs.declared.flights.Attempt.{Attempt}
 use Rattle.ph_attempts.specs.declared.flights.Attempt.TheVariants as unsettled
-use Rattle.ph_doings.specs.Doings.{Cause, Doing, Leaves, Puts, Edits, Begins, Resumes, Parks, Settles}
+use Rattle.ph_facts.specs.Touches.{Cause}
+use Rattle.ph_doings.specs.Doings.{Doing, Leaves, Puts, Edits, Begins, Resumes, Parks, Settles}
 use Rattle.ph_doings.specs.Kept.{after_step, attempts_after, step_of, live_in, parked_in, without_live, without_parked}
 use Rattle.ph_doings.specs.Lawful.{MayDo}
 use Rattle.ph_doings.specs.Laws.{AttemptsAreUnsettled, KeepsUnsettled}

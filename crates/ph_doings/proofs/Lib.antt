@@ -14,3 +14,4 @@ pub mod Counted
 pub mod Queue
 pub mod FoundRuns
 pub mod RecordLemmas
+pub mod Coming

@@ -5,7 +5,8 @@ use Rattle.ph_base.specs.declared.acquirer.Ruling.{Ruling}
 use Rattle.ph_attempts.specs.declared.flights.Flight.{Flight}
 use Rattle.ph_items.specs.declared.intents.CaptureMethod.{CaptureMethod}
 use Rattle.ph_items.specs.declared.intents.IntentStatus.{IntentStatus}
-use Rattle.ph_doings.specs.Doings.{Cause, Doing, Leaves, Puts, Edits, Begins, Resumes, Parks, Settles}
+use Rattle.ph_facts.specs.Touches.{Cause}
+use Rattle.ph_doings.specs.Doings.{Doing, Leaves, Puts, Edits, Begins, Resumes, Parks, Settles}
 use Rattle.ph_doings.specs.Runs.{Flies, live_run}
 use Rattle.ph_doings.specs.Standings.{Live, Parked, NotBegun, Stands, standing_of}
 use Rattle.ph_doings.proofs.Sound.{HasLiveRuns}

@@ -6,7 +6,8 @@ use Rattle.ph_base.specs.declared.acquirer.Ruling.{Ruling}
 use Rattle.ph_items.specs.declared.intents.CaptureMethod.{CaptureMethod}
 use Rattle.ph_items.specs.declared.orders.Order.{Order}
 use Rattle.ph_attempts.specs.declared.flights.Flight.{Flight}
-use Rattle.ph_doings.specs.Doings.{Cause, Doing, Leaves, Puts, Edits, Begins, Resumes, Parks, Settles}
+use Rattle.ph_facts.specs.Touches.{Cause}
+use Rattle.ph_doings.specs.Doings.{Doing, Leaves, Puts, Edits, Begins, Resumes, Parks, Settles}
 use Rattle.ph_doings.specs.Lawful.{IsLawful, MayDo}
 use Rattle.ph_doings.specs.Laws.{FirstOf, FirstParkedIsEarliest, IsFirstParked}
 use Rattle.ph_doings.specs.Parks.{first_in, parked_at, parked_attempts}

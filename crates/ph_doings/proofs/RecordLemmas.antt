@@ -7,7 +7,8 @@ use Rattle.ph_items.specs.declared.intents.CaptureMethod.{CaptureMethod}
 use Rattle.ph_items.specs.declared.orders.Order.{Order}
 use Rattle.ph_attempts.specs.declared.flights.Flight.{Flight}
 use Rattle.ph_doings.specs.Confirmations.{begun_by}
-use Rattle.ph_doings.specs.Doings.{Cause, Doing, Leaves, Puts, Edits, Begins, Resumes, Parks, Settles}
+use Rattle.ph_facts.specs.Touches.{Cause}
+use Rattle.ph_doings.specs.Doings.{Doing, Leaves, Puts, Edits, Begins, Resumes, Parks, Settles}
 use Rattle.ph_doings.specs.Lawful.{MayDo}
 use Rattle.ph_doings.specs.RecordLaws.{KeyAddsNone, OpensRecord, RepeatFinds, SavedStays}
 use Rattle.ph_doings.specs.Records.{AreLawful, DoesByFound, Found, Fresh, Differs, Live, Parked, Saved, Opened, Opens, Said, Replies, Silence, Waits, Turn, a_day, doings_of, found_in, last_opened, opened_by, record_of, result_of, result_of_attempt, result_said, said_at, settled_at, time_of}

@@ -9,7 +9,11 @@ use Rattle.ph_items.specs.Kinds.{kind_of}
 use Rattle.ph_facts.specs.Order.{IsInOrder}
 use Rattle.ph_rows.specs.Views.{ViewState}
 use Rattle.ph_facts.proofs.OrderLemmas.{latest_of_order, versions_alike}
+use Rattle.ph_rows.proofs.RowLemmas.{is_row_at}
 use Rattle.ph_rows.specs.Rows.{later_version, latest_of, row_at}
+use Rattle.ph_items.specs.Charges.{charge_kind}
+use Rattle.ph_items.specs.declared.charges.ChargeSort.{ChargeSort}
+use Rattle.ph_items.specs.declared.charges.ChargeSort.TheVariants as sort
 use Rattle.ph_items.specs.declared.attempts.Attempt.{Attempt}
 use Rattle.ph_items.specs.declared.attempts.AttemptState.{AttemptState}
 use Rattle.ph_items.specs.declared.intents.Intent.{Intent}
@@ -18,8 +22,9 @@ use Rattle.ph_items.specs.declared.items.Item.{Item}
 use Rattle.ph_items.specs.declared.items.Item.TheVariants as item
 use Rattle.ph_items.specs.declared.orders.Order.{Order}
 use Rattle.ph_rows.specs.declared.rows.Row.{Row}
-use Rattle.ph_doings.specs.Doings.{Doing, Leaves, Puts, Edits, Begins, Resumes, Parks, Settles}
-use Rattle.ph_doings.specs.Rows.{HasAttempt, HasIntent, PastIsInRows, RowsSayPast, Shown, ShowsIntent, ShowsAttempt, StandsAs, shown_by, shown_in, shown_of, shows, state_shown}
+use Rattle.ph_doings.specs.Doings.{Doing, Leaves, Puts, Edits, Begins, Resumes, Parks, Settles, touch_of}
+use Rattle.ph_facts.specs.Shown.{HasAttempt, HasIntent, Shown, ShowsIntent, ShowsAttempt, shown_by, shown_in, shows}
+use Rattle.ph_doings.specs.Rows.{PastIsInRows, RowsSayPast, StandsAs, shown_of, state_shown}
 use Rattle.ph_doings.specs.Standings.{State, Standing, NotBegun, Stands, standing_after, standing_of}
 use Rattle.ph_doings.specs.Statuses.{status_after, status_of}
 
@@ -46,7 +51,7 @@ version_of (Stands intent order state) = HasVersion intent order (state_shown st
 
 -- ---- what the past shows
 
-status_step : (doing : Doing) (intent : ℕ) (old : Option IntentStatus) → fold (later_status intent) old (shows doing) ≡ status_after doing intent old
+status_step : (doing : Doing) (intent : ℕ) (old : Option IntentStatus) → fold (later_status intent) old (shows (touch_of doing)) ≡ status_after doing intent old
 status_step Leaves intent old = refl
 status_step (Puts of put) intent old = grind (arith, nat_tests)
 status_step (Edits of put) intent old = grind (arith, nat_tests)
@@ -57,11 +62,11 @@ status_step (Settles of flight capture ruling) intent old = grind (arith, nat_te
 
 status_shown : (past : List Doing) (intent : ℕ) → fold (later_status intent) None (shown_of past) ≡ status_of past intent
 status_shown [] intent = refl
-status_shown (doing ∷ past) intent = fold-append (later_status intent) None (shown_of past) (shows doing)
-    ∙ ap (λ old. fold (later_status intent) old (shows doing)) (status_shown past intent) ∙ status_step doing intent (status_of past intent)
+status_shown (doing ∷ past) intent = fold-append (later_status intent) None (shown_of past) (shows (touch_of doing))
+    ∙ ap (λ old. fold (later_status intent) old (shows (touch_of doing))) (status_shown past intent) ∙ status_step doing intent (status_of past intent)
 
 version_step : (doing : Doing) (reference : ℕ) (old : Standing)
-    → fold (later_attempt reference) (version_of old) (shows doing) ≡ version_of (standing_after doing reference old)
+    → fold (later_attempt reference) (version_of old) (shows (touch_of doing)) ≡ version_of (standing_after doing reference old)
 version_step Leaves reference old = refl
 version_step (Puts intent put) reference old = refl
 version_step (Edits intent put) reference old = refl
@@ -72,8 +77,8 @@ version_step (Settles intent flight capture ruling) reference old = grind (arith
 
 version_shown : (past : List Doing) (reference : ℕ) → fold (later_attempt reference) NoVersion (shown_of past) ≡ version_of (standing_of past reference)
 version_shown [] reference = refl
-version_shown (doing ∷ past) reference = fold-append (later_attempt reference) NoVersion (shown_of past) (shows doing)
-    ∙ ap (λ old. fold (later_attempt reference) old (shows doing)) (version_shown past reference) ∙ version_step doing reference (standing_of past reference)
+version_shown (doing ∷ past) reference = fold-append (later_attempt reference) NoVersion (shown_of past) (shows (touch_of doing))
+    ∙ ap (λ old. fold (later_attempt reference) old (shows (touch_of doing))) (version_shown past reference) ∙ version_step doing reference (standing_of past reference)
 
 -- ---- what rows show
 
@@ -311,11 +316,16 @@ alike state number wanted last order there latest =
     let stands : (row_at last.place state.rows ≡ Some last) × (last.object ≡ number) = latest_of_order state number last order latest in
     sym (versions_alike state (there.index + 1) last.place there.row last order place stands.0 (there.object_is ∙ sym stands.1)) ∙ there.kind_is
 
+-- a charge is of neither kind
+charge_kinds : (made : ChargeSort) (wanted : Kind) → (kind.Charge ≡ wanted → ⊥) → (kind.Payment ≡ wanted → ⊥) → charge_kind made ≡ wanted → ⊥
+charge_kinds (sort.Card intent) wanted card payment h = card h
+charge_kinds (sort.Payment transfer) wanted card payment h = payment h
+
 intent_of_kind : (content : Item) → kind_of content ≡ kind.Intent → (intent : Intent) × (content ≡ item.Intent intent)
 intent_of_kind (item.Account x) h = absurd (cc)
 intent_of_kind (item.Intent x) h = (x, refl)
 intent_of_kind (item.Attempt x) h = absurd (cc)
-intent_of_kind (item.Charge x) h = absurd (cc)
+intent_of_kind (item.Charge x) h = absurd (charge_kinds x.sort kind.Intent (λ is. absurd (cc)) (λ is. absurd (cc)) h)
 intent_of_kind (item.Refund x) h = absurd (cc)
 intent_of_kind (item.Dispute x) h = absurd (cc)
 intent_of_kind (item.Txn x) h = absurd (cc)
@@ -325,7 +335,7 @@ attempt_of_kind : (content : Item) → kind_of content ≡ kind.Attempt → (att
 attempt_of_kind (item.Account x) h = absurd (cc)
 attempt_of_kind (item.Intent x) h = absurd (cc)
 attempt_of_kind (item.Attempt x) h = (x, refl)
-attempt_of_kind (item.Charge x) h = absurd (cc)
+attempt_of_kind (item.Charge x) h = absurd (charge_kinds x.sort kind.Attempt (λ is. absurd (cc)) (λ is. absurd (cc)) h)
 attempt_of_kind (item.Refund x) h = absurd (cc)
 attempt_of_kind (item.Dispute x) h = absurd (cc)
 attempt_of_kind (item.Txn x) h = absurd (cc)
@@ -359,7 +369,7 @@ has_intent past state object status order shown is (Some row) latest =
 
 has_attempt : (past : List Doing) (state : ViewState) (object intent : ℕ) (order : Order) (where_ : State) → IsInOrder state
     → shown_in state.rows ≡ shown_of past → standing_of past object ≡ Stands intent order where_ → (found : Option Row)
-    → latest_of object state.rows ≡ found → HasAttempt state.rows object intent order where_
+    → latest_of object state.rows ≡ found → HasAttempt state.rows object intent order (state_shown where_)
 has_attempt past state object intent order where_ sound shown is None latest =
     absurd (let no_place : NotBegun ≡ Stands intent order where_ = sym ((rows_say_past past state.rows shown).none object latest).1 ∙ is in cc)
 has_attempt past state object intent order where_ sound shown is (Some row) latest =

@@ -2,9 +2,9 @@
 use Rattle.std.proofs.Common.{◌≡◌, true, false, Option, Some, None, refl}
 use Rattle.ph_items.specs.declared.intents.IntentStatus.{IntentStatus}
 use Rattle.ph_items.specs.declared.intents.IntentStatus.TheVariants as status
-use Rattle.ph_doings.specs.Doings.{Cause, Confirms, Authenticates}
+use Rattle.ph_facts.specs.Touches.{Cause, Confirms, Authenticates}
 use Rattle.ph_doings.proofs.Sound.{is_over}
-use Rattle.ph_doings.specs.Statuses.{may_authenticate, may_begin, may_put}
+use Rattle.ph_facts.specs.Statuses.{may_authenticate, may_begin, may_put}
 
 -- a payment intent that is processing isn't put anywhere
 pub not_put_while_processing : (old : Option IntentStatus) (put : IntentStatus) → may_put old put ≡ true → old ≡ Some status.Processing → ⊥

@@ -1,6 +1,7 @@
 -- Attempts by the doings that began them, and the confirmations that they belong to, read off the past.
 use Rattle.std.specs.Prelude.{ℕ, suc, ◌==◌, if◌then◌else◌, List, [], ◌∷◌, length, Option, Some, None}
-use Rattle.ph_doings.specs.Doings.{Confirms, Authenticates, Doing, Leaves, Puts, Edits, Begins, Resumes, Parks, Settles}
+use Rattle.ph_facts.specs.Touches.{Confirms, Authenticates}
+use Rattle.ph_doings.specs.Doings.{Doing, Leaves, Puts, Edits, Begins, Resumes, Parks, Settles}
 
 -- the reference of the attempt that a doing begins
 abbrev pub begun_by : Doing → Option ℕ

@@ -3,7 +3,8 @@ use Rattle.std.specs.Prelude.{◌≡◌, suc, true, List, [], ◌∷◌, length,
 use Rattle.ph_doings.specs.Doings.{Doing, Leaves, Puts, Edits, Begins, Resumes, Parks, Settles}
 use Rattle.ph_doings.specs.Runs.{Flies, live_run}
 use Rattle.ph_doings.specs.Standings.{Live, Parked, NotBegun, Stands, standing_of}
-use Rattle.ph_doings.specs.Statuses.{may_begin, may_put, status_of}
+use Rattle.ph_facts.specs.Statuses.{may_begin, may_put}
+use Rattle.ph_doings.specs.Statuses.{status_of}
 
 -- what may come after the past: whatever leaves all as it is; a payment intent put where the table says, or edited at its
 -- status; an attempt that hasn't begun, of a payment intent that may be confirmed or waits for its customer; a parked attempt

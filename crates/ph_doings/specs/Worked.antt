@@ -7,7 +7,8 @@ use Rattle.ph_attempts.specs.declared.flights.Flight.{Flight}
 use Rattle.ph_items.specs.declared.intents.CaptureMethod.TheVariants as capture_method
 use Rattle.ph_items.specs.declared.intents.IntentStatus.TheVariants as status
 use Rattle.ph_items.specs.declared.orders.Order.{Order}
-use Rattle.ph_doings.specs.Doings.{Confirms, Authenticates, Doing, Puts, Edits, Begins, Resumes, Parks, Settles}
+use Rattle.ph_facts.specs.Touches.{Confirms, Authenticates}
+use Rattle.ph_doings.specs.Doings.{Doing, Puts, Edits, Begins, Resumes, Parks, Settles}
 
 -- an order of 20.00 US dollars under a reference
 abbrev pub order : ℕ → Order

@@ -12,5 +12,5 @@ pub use laws::{
     runs_are_found, runs_stay,
 };
 pub use records::{key_adds_none, repeat_finds, saved_stays};
-pub use rows::{past_is_in_rows, rows_say_past};
+pub use rows::{live_runs_may_end, past_is_in_rows, rows_let_come, rows_say_past};
 pub use worked::{a_challenge, two_parks};
