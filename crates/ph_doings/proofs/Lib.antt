@@ -12,5 +12,6 @@ pub mod LawProofs
 pub mod KeptLists
 pub mod Counted
 pub mod Queue
+pub mod EndLemmas
 pub mod FoundRuns
 pub mod RecordLemmas

@@ -7,6 +7,7 @@ pub mod Parks
 pub mod Kept
 pub mod Lawful
 pub mod Laws
+pub mod Ends
 pub mod Records
 pub mod RecordLaws
 pub mod Rows
