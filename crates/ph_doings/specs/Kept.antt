@@ -1,12 +1,10 @@
 -- The attempts that aren't settled, as the program keeps them.
-use Rattle.std.specs.Prelude.{ℕ, ◌==◌, ◌&&◌, Bool, false, not, List, [], ◌∷◌, ◌++◌, Option, Some, None}
-use Rattle.std.specs.List.{filter, find}
-use Rattle.ph_rows.specs.declared.orders.Order.{Order}
+use Rattle.std.specs.Prelude.{ℕ, ◌==◌, ◌&&◌, Bool, List, [], ◌∷◌, Option, Some, None}
+use Rattle.std.specs.List.{find}
 use Rattle.ph_attempts.specs.Attempts.{Step, after, live_in}
 use Rattle.ph_attempts.specs.Attempts as step
 use Rattle.ph_attempts.specs.declared.flights.Flight.{Flight}
 use Rattle.ph_attempts.specs.declared.flights.Attempt.{Attempt}
-use Rattle.ph_attempts.specs.declared.flights.Attempt.TheVariants as unsettled
 use Rattle.ph_doings.specs.Doings.{Doing, Leaves, Puts, Edits, Begins, Resumes, Parks, Settles}
 
 -- the step of an attempt that a doing makes
