@@ -1,11 +1,12 @@
 -- How many runs are live.
 use Rattle.std.proofs.Common.{◌≡◌, ℕ, zero, suc, ◌+◌, ◌<◌, ◌≤◌, ◌==◌, Bool, true, false, not, List, [], ◌∷◌, ◌++◌, length, refl, sym, ap, ◌∙◌, length-append, arith}
+use Rattle.ph_attempts.specs.Attempts.{is_same_run}
 use Rattle.std.proofs.lemmas.Bool.Decides.{nat_tests}
 use Rattle.std.proofs.lemmas.List.Elements.{filter-append}
 use Rattle.ph_attempts.specs.declared.flights.Flight.{Flight}
 use Rattle.ph_doings.specs.Doings.{Doing, Leaves, Puts, Edits, Begins, Resumes, Parks, Settles}
 use Rattle.ph_doings.specs.Laws.{RunsAreCounted}
-use Rattle.ph_doings.specs.Runs.{Run, NoRun, Flies, flights_in, is_same_run, live_run, live_runs, live_up_to}
+use Rattle.ph_doings.specs.Runs.{Run, NoRun, Flies, flights_in, live_run, live_runs, live_up_to}
 use Rattle.ph_doings.proofs.FoundRuns.{run_known}
 use Rattle.ph_doings.proofs.Kept.{sound}
 use Rattle.ph_doings.proofs.KeptLists.{begun_last, ended_runs, unchanged, without_run}

@@ -3,8 +3,8 @@ use Rattle.std.proofs.Common.{◌≡◌, ℕ, ◌==◌, if◌then◌else◌, Boo
 use Rattle.std.proofs.lemmas.Bool.Decides.{nat_tests}
 use Rattle.ph_base.specs.declared.acquirer.Ruling.{Ruling}
 use Rattle.ph_attempts.specs.declared.flights.Flight.{Flight}
-use Rattle.ph_rows.specs.declared.intents.CaptureMethod.{CaptureMethod}
-use Rattle.ph_rows.specs.declared.orders.Order.{Order}
+use Rattle.ph_items.specs.declared.intents.CaptureMethod.{CaptureMethod}
+use Rattle.ph_items.specs.declared.orders.Order.{Order}
 use Rattle.ph_doings.specs.Doings.{Doing, Leaves, Puts, Edits, Begins, Resumes, Parks, Settles}
 use Rattle.ph_doings.specs.Ends.{EndsAreTotal, LiveRunsEnd, finish_of, for_intent, park_of, resume_of, resume_order, resumed_by, with_own}
 use Rattle.ph_doings.specs.Lawful.{MayDo}

@@ -3,14 +3,14 @@ use Rattle.std.proofs.Common.{◌≡◌, ◌≢◌, ℕ, zero, suc, ◌<◌, ◌
 use Rattle.std.specs.List.{find}
 use Rattle.std.proofs.lemmas.Bool.Decides.{nat_tests}
 use Rattle.std.proofs.lemmas.List.{append-nil}
-use Rattle.ph_attempts.specs.Attempts.{Step, flight_of}
+use Rattle.ph_attempts.specs.Attempts.{Step, flight_of, is_same_run, live_in, without_live, without_parked}
 use Rattle.ph_attempts.specs.Attempts as step
 use Rattle.ph_attempts.specs.declared.flights.Flight.{Flight}
 use Rattle.ph_attempts.specs.declared.flights.Attempt.TheVariants as unsettled
 use Rattle.ph_doings.specs.Doings.{Doing}
-use Rattle.ph_doings.specs.Kept.{is_run, live_in, without_live, without_parked}
+use Rattle.ph_doings.specs.Kept.{is_run}
 use Rattle.ph_doings.specs.Laws.{RunsAreFound, RunsStay}
-use Rattle.ph_doings.specs.Runs.{Run, NoRun, Flies, flights_in, is_same_run, live_run, live_up_to}
+use Rattle.ph_doings.specs.Runs.{Run, NoRun, Flies, flights_in, live_run, live_up_to}
 use Rattle.ph_doings.proofs.Kept.{sound}
 use Rattle.ph_doings.proofs.KeptLists.{attempts_are_unsettled, live_in-append, live_in-without_live, live_in-without_parked, without_run}
 use Rattle.ph_doings.proofs.Sound.{HasLiveRuns}

@@ -1,5 +1,6 @@
 -- The attempts that are kept: their live ones are the live runs, and their parked ones the parked attempts.
 use Rattle.std.proofs.Common.{◌≡◌, ℕ, zero, suc, ◌≤◌, ◌==◌, ◌&&◌, Bool, true, false, not, cond, List, [], ◌∷◌, ◌++◌, length, None, refl, sym, ap, ◌∙◌, arith}
+use Rattle.ph_attempts.specs.Attempts.{is_same_run, live_in, parked_in, without_live, without_parked}
 use Rattle.std.specs.List.{filter}
 use Rattle.std.proofs.lemmas.Bool.Decides.{nat_tests}
 use Rattle.std.proofs.lemmas.List.{append-nil}
@@ -12,11 +13,11 @@ use Rattle.ph_attempts.specs.declared.flights.Attempt.{Attempt}
 use Rattle.ph_attempts.specs.declared.flights.Attempt.TheVariants as unsettled
 use Rattle.ph_facts.specs.Touches.{Cause}
 use Rattle.ph_doings.specs.Doings.{Doing, Leaves, Puts, Edits, Begins, Resumes, Parks, Settles}
-use Rattle.ph_doings.specs.Kept.{after_step, attempts_after, step_of, live_in, parked_in, without_live, without_parked}
+use Rattle.ph_doings.specs.Kept.{after_step, attempts_after, step_of}
 use Rattle.ph_doings.specs.Lawful.{MayDo}
 use Rattle.ph_doings.specs.Laws.{AttemptsAreUnsettled, KeepsUnsettled}
 use Rattle.ph_doings.specs.Parks.{parked_among, parked_at, parked_attempts, parked_since}
-use Rattle.ph_doings.specs.Runs.{Run, NoRun, Flies, ended_by, flights_in, is_same_run, live_run, live_runs, live_up_to}
+use Rattle.ph_doings.specs.Runs.{Run, NoRun, Flies, ended_by, flights_in, live_run, live_runs, live_up_to}
 use Rattle.ph_doings.specs.Standings.{Live, NotBegun, Stands, is_parked, standing_of}
 use Rattle.ph_doings.proofs.Kept.{sound}
 use Rattle.ph_doings.proofs.Sound.{IsSound}

@@ -2,8 +2,8 @@
 use Rattle.std.specs.Prelude.{◌≡◌, ℕ, suc, ◌==◌, if◌then◌else◌, List, length, Option, Some, None}
 use Rattle.ph_base.specs.declared.acquirer.Ruling.{Ruling}
 use Rattle.ph_attempts.specs.declared.flights.Flight.{Flight}
-use Rattle.ph_rows.specs.declared.intents.CaptureMethod.{CaptureMethod}
-use Rattle.ph_rows.specs.declared.orders.Order.{Order}
+use Rattle.ph_items.specs.declared.intents.CaptureMethod.{CaptureMethod}
+use Rattle.ph_items.specs.declared.orders.Order.{Order}
 use Rattle.ph_doings.specs.Doings.{Doing, Leaves, Resumes, Parks, Settles}
 use Rattle.ph_doings.specs.Lawful.{IsLawful, MayDo}
 use Rattle.ph_doings.specs.Parks.{first_parked}

@@ -1,14 +1,14 @@
 -- The laws of attempts, over every past in which each doing may come after those before it.
 use Rattle.std.specs.Prelude.{◌≡◌, ◌≢◌, ℕ, ◌+◌, ◌<◌, ◌↔◌, true, false, List, ◌∷◌, length, Option, Some, None}
 use Rattle.std.specs.List.{list_all}
-use Rattle.ph_attempts.specs.Attempts.{Step, flight_of}
+use Rattle.ph_attempts.specs.Attempts.{Step, after, flight_of, live_in, parked_in}
 use Rattle.ph_attempts.specs.declared.flights.Attempt.{Attempt}
 use Rattle.ph_attempts.specs.declared.flights.Flight.{Flight}
 use Rattle.ph_items.specs.declared.orders.Order.{Order}
 use Rattle.ph_items.specs.declared.intents.IntentStatus.TheVariants as status
 use Rattle.ph_doings.specs.Confirmations.{all_but_first, attempts_of_confirmation, begun_at}
 use Rattle.ph_doings.specs.Doings.{Doing}
-use Rattle.ph_doings.specs.Kept.{after, attempts_after, live_in, parked_in, run_in}
+use Rattle.ph_doings.specs.Kept.{attempts_after, run_in}
 use Rattle.ph_doings.specs.Lawful.{IsLawful}
 use Rattle.ph_doings.specs.Parks.{first_parked, parked_at, parked_attempts}
 use Rattle.ph_doings.specs.Runs.{Flies, live_run, live_runs, runs_begun, runs_ended}

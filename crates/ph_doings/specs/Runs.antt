@@ -1,5 +1,6 @@
 -- Runs of attempts, read off the past. Places count from 1, so the newest doing stands at the past's length.
-use Rattle.std.specs.Prelude.{ℕ, zero, suc, ◌==◌, ◌&&◌, Bool, if◌then◌else◌, List, [], ◌∷◌, ◌++◌, length}
+use Rattle.std.specs.Prelude.{ℕ, zero, suc, ◌==◌, if◌then◌else◌, List, [], ◌∷◌, ◌++◌, length}
+use Rattle.ph_attempts.specs.Attempts.{is_same_run}
 use Rattle.ph_attempts.specs.declared.flights.Flight.{Flight}
 use Rattle.ph_doings.specs.Doings.{Doing, Leaves, Puts, Edits, Begins, Resumes, Parks, Settles}
 
@@ -7,10 +8,6 @@ use Rattle.ph_doings.specs.Doings.{Doing, Leaves, Puts, Edits, Begins, Resumes, 
 pub data Run : Type 0 where
   NoRun : Run
   Flies : Flight → Run
-
--- it is the same run of the same caller
-abbrev pub is_same_run : Flight → Flight → Bool
-is_same_run flight other = flight.run == other.run && flight.caller == other.caller
 
 -- a run after an end of a run: its own caller's end of it is the last of it
 abbrev pub ended_by : Flight → Run → Run
