@@ -8,7 +8,7 @@ use Rattle.ph_attempts.specs.declared.flights.Attempt.{Attempt}
 use Rattle.ph_attempts.specs.declared.flights.Attempt.TheVariants.{Live, Parked}
 use Rattle.ph_attempts.specs.Attempts.{Step, Begins, Resumes, Parks, Settles, entry_of, has_reference, without}
 use Rattle.ph_attempts.proofs.EntryLemmas.{without-none}
-use Rattle.ph_rows.specs.declared.orders.Order.{Order}
+use Rattle.ph_items.specs.declared.orders.Order.{Order}
 use Rattle.ph_rows.specs.declared.rows.Row.{Row}
 use Rattle.ph_rows.specs.Batches.{BatchState}
 use Rattle.ph_http.specs.declared.message.Raw.{Raw}

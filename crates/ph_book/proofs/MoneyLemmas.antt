@@ -1,19 +1,26 @@
 -- The laws of money, of sound rows.
-use Rattle.std.proofs.Common.{◌≡◌, ℕ, ◌≤◌, ◌∷◌, Bool, true, false, cond, nat_le, nat_lt, List, [], refl, sym, ap, subst, arith, ℤ, pos, ◌+ℤ◌, ◌≤ℤ◌}
+use Rattle.std.proofs.Common.{◌≡◌, ℕ, ◌+◌, ◌≤◌, ◌∷◌, Option, None, Some, Bool, true, false, cond, nat_le, nat_lt, List, [], refl, sym, ap, subst, arith, ℤ, pos, ◌+ℤ◌, ◌≤ℤ◌}
 use Rattle.std.specs.List.{filter}
 use Rattle.std.proofs.lemmas.Bool.Decides.{nat_tests}
 use Rattle.std.proofs.lemmas.Int.{ints}
+use Rattle.std.specs.Prelude.{option_and_then}
+use Rattle.ph_items.specs.declared.charges.Charge.{Charge}
+use Rattle.ph_items.specs.declared.intents.Intent.{Intent}
 use Rattle.ph_items.specs.declared.items.Item.TheVariants as item
+use Rattle.ph_items.specs.Items.{charge_in}
 use Rattle.ph_items.specs.declared.movements.Movement.{Movement}
 use Rattle.ph_rows.specs.declared.rows.Row.{Row}
+use Rattle.ph_rows.specs.Rows.{latest_of}
 use Rattle.ph_items.specs.Movements.{counts}
 use Rattle.ph_rows.specs.Balances.{movements_of, net_of}
 use Rattle.ph_facts.specs.Sound.{IsSound}
-use Rattle.ph_facts.specs.Amounts.{captured, moved, moves_in, refunded, refunded_of}
+use Rattle.ph_facts.specs.Amounts.{captured, captured_of, moved, moves_in, refunded, refunded_of}
 use Rattle.ph_facts.proofs.OrderLemmas.{amounts_stand}
+use Rattle.ph_facts.proofs.PresentLemmas.{charge_found}
 use Rattle.ph_facts.proofs.SoundLemmas.{latest_of_sound}
+use Rattle.ph_facts.specs.Held.{Holds, IsHeldBy, charge_of}
 use Rattle.ph_rows.specs.Views.{ViewState}
-use Rattle.ph_book.specs.Laws.{AmountsAreSums, BalancesAreSums, DisputesMoveOnce, RefundsFit}
+use Rattle.ph_book.specs.Laws.{AmountsAreSums, BalancesAreSums, IsLeftOf, DisputesMoveOnce, RefundsFit}
 
 -- what counts at a time and what doesn't are all
 net_parts : (time : ℕ) (movements : List Movement)
@@ -38,11 +45,40 @@ net_parts time (movement ∷ movements) = at (nat_le movement.available_on time)
 pub balances_sum : (rows : List Row) → BalancesAreSums rows
 balances_sum rows account currency time = net_parts time (movements_of account currency rows)
 
--- the present version of a charge says its amounts
+-- what is held for a payment intent is what is left of its charge
+held_left : (state : ViewState) → IsSound state → (object : ℕ) (intent : Intent) (latest : Option ℕ) → intent.latest_charge ≡ latest
+    → IsHeldBy object intent (option_and_then (charge_of state.rows) latest) → IsLeftOf object state.rows intent
+held_left state sound object intent None same held = absurd held
+held_left state sound object intent (Some number) same held = at (charge_of state.rows number) refl held
+  where
+    in_row : (charge : Charge) → charge_of state.rows number ≡ Some charge → Holds object intent charge → (found : Option Row)
+        → latest_of number state.rows ≡ found → option_and_then (λ (r : Row). charge_in r.item) found ≡ Some charge
+        → IsLeftOf object state.rows intent
+    in_row charge known holds None latest e = absurd (cc)
+    in_row charge known holds (Some row) latest e =
+        let is = (charge_found state number row charge sound latest e).0.is in
+        let sum : pos charge.amount_captured ≡ captured_of number state.rows =
+        sound.laws.captured number row (pos charge.amount_captured) latest (ap captured.said is) in
+        let left : intent.amount_capturable + charge.amount_captured ≡ charge.amount = holds.amount in
+        record {
+          number = number;
+          charge = charge;
+          latest = same;
+          version = known;
+          pays = holds.sort;
+          left = omega (arith, ints);
+        }
+
+    at : (found : Option Charge) → charge_of state.rows number ≡ found → IsHeldBy object intent found → IsLeftOf object state.rows intent
+    at None e h = absurd h
+    at (Some charge) e h = in_row charge e h (latest_of number state.rows) refl e
+
+-- the present versions of charges and of payment intents say their amounts
 pub sound_amounts : (state : ViewState) → IsSound state → AmountsAreSums state.rows
 sound_amounts state sound = record {
   captured = λ object row charge found is. sound.laws.captured object row (pos charge.amount_captured) found (ap captured.said is);
   refunded = λ object row charge found is. sound.laws.refunded object row charge.amount_refunded found (ap refunded.said is);
+  capturable = λ object row intent found is waits. held_left state sound object intent intent.latest_charge refl (sound.laws.held object row intent found is waits);
 }
 
 pub sound_refunds : (state : ViewState) → IsSound state → RefundsFit state.rows

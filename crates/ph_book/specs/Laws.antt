@@ -3,11 +3,15 @@ use Rattle.std.specs.Prelude.{◌≡◌, ℕ, pos, ◌+ℤ◌, ◌≤ℤ◌, Lis
 use Rattle.ph_money.specs.declared.currencies.Currency.{Currency}
 use Rattle.ph_rows.specs.declared.rows.Row.{Row}
 use Rattle.ph_items.specs.declared.charges.Charge.{Charge}
+use Rattle.ph_items.specs.declared.charges.ChargeSort.TheVariants as charge_sort
 use Rattle.ph_items.specs.declared.disputes.Dispute.{Dispute}
+use Rattle.ph_items.specs.declared.intents.Intent.{Intent}
+use Rattle.ph_items.specs.declared.intents.IntentStatus.TheVariants as status
 use Rattle.ph_items.specs.declared.items.Item.TheVariants as item
 use Rattle.ph_rows.specs.Balances.{available_of, movements_of, net_of, pending_of}
 use Rattle.ph_items.specs.Kinds.{kind_of}
 use Rattle.ph_rows.specs.Rows.{latest_of, row_at}
+use Rattle.ph_facts.specs.Held.{charge_of}
 use Rattle.ph_facts.specs.Amounts.{captured_of, moves_in, moves_of, refunded_of}
 use Rattle.ph_views.specs.Values.{printed_id}
 
@@ -20,7 +24,16 @@ abbrev pub BalancesAreSums : List Row → Type 0
 BalancesAreSums rows = (account : ℕ) (currency : Currency) (time : ℕ)
     → available_of account currency time rows +ℤ pending_of account currency time rows ≡ net_of (movements_of account currency rows)
 
--- the amounts that the present version of a charge says are sums over the rows
+-- what can be captured of a payment intent is what was authorised of its latest charge, less what was captured of that
+pub record IsLeftOf (object : ℕ) (rows : List Row) (intent : Intent) : Type 0 where
+  pub number : ℕ
+  pub charge : Charge
+  pub latest : intent.latest_charge ≡ Some number
+  pub version : charge_of rows number ≡ Some charge
+  pub pays : charge.sort ≡ charge_sort.Card object
+  pub left : pos intent.amount_capturable +ℤ captured_of number rows ≡ pos charge.amount
+
+-- the amounts that the present versions of charges and of payment intents say are sums over the rows
 pub record AmountsAreSums (rows : List Row) : Type 0 where
   -- what was captured is the sum of its transactions of type charge
   pub captured : (object : ℕ) (row : Row) (charge : Charge) → latest_of object rows ≡ Some row → row.item ≡ item.Charge charge
@@ -28,6 +41,9 @@ pub record AmountsAreSums (rows : List Row) : Type 0 where
   -- what was refunded is the sum of its refunds
   pub refunded : (object : ℕ) (row : Row) (charge : Charge) → latest_of object rows ≡ Some row → row.item ≡ item.Charge charge
       → charge.amount_refunded ≡ refunded_of object rows
+  -- what can be captured of a payment intent that waits for its capture is what is left of what was authorised of its charge
+  pub capturable : (object : ℕ) (row : Row) (intent : Intent) → latest_of object rows ≡ Some row → row.item ≡ item.Intent intent
+      → intent.status ≡ status.RequiresCapture → IsLeftOf object rows intent
 
 -- the refunds of a charge add up to no more than what was captured of it
 abbrev pub RefundsFit : List Row → Type 0

@@ -1,6 +1,6 @@
 -- Payment intents that wait for their capture, with a version of a charge that keeps what it holds.
 use Rattle.std.specs.Prelude.{option_and_then}
-use Rattle.std.proofs.Common.{◌≡◌, ℕ, ◌≤◌, inl, inr, Bool, true, false, cond, eqb, List, [], ◌∷◌, ◌++◌, Option, None, Some, sym, refl, ap, ◌∙◌, subst}
+use Rattle.std.proofs.Common.{◌≡◌, ℕ, ◌+◌, inl, inr, Bool, true, false, cond, eqb, List, [], ◌∷◌, ◌++◌, Option, None, Some, sym, refl, ap, ◌∙◌, subst}
 use Rattle.std.proofs.lemmas.Bool.{eqb-true}
 use Rattle.std.proofs.lemmas.List.Sums.{fold_push}
 use Rattle.ph_rows.specs.declared.rows.Row.{Row}
@@ -33,7 +33,7 @@ held_version rows new before after held known is keeps object row intent e inten
     holds_still : IsHeldBy object intent (Some before) → IsHeldBy object intent (Some after)
     holds_still h = record {
       sort = keeps.sort ∙ h.sort;
-      amount = subst (λ n. intent.amount_capturable ≤ n) (sym keeps.amount) h.amount;
+      amount = ap (λ n. intent.amount_capturable + n) keeps.captured ∙ h.amount ∙ sym keeps.amount;
       nothing = keeps.captured ∙ h.nothing;
     }
 

@@ -1,5 +1,5 @@
 -- What a payment intent that waits for its capture may capture is held by its charge.
-use Rattle.std.specs.Prelude.{◌≡◌, ℕ, ◌≤◌, List, Option, None, Some, option_and_then}
+use Rattle.std.specs.Prelude.{◌≡◌, ℕ, ◌+◌, List, Option, None, Some, option_and_then}
 use Rattle.ph_items.specs.declared.charges.Charge.{Charge}
 use Rattle.ph_items.specs.declared.charges.ChargeSort.TheVariants as charge_sort
 use Rattle.ph_items.specs.declared.intents.Intent.{Intent}
@@ -9,11 +9,11 @@ use Rattle.ph_items.specs.Items.{charge_in}
 use Rattle.ph_rows.specs.declared.rows.Row.{Row}
 use Rattle.ph_rows.specs.Rows.{latest_of}
 
--- a version of a charge holds what can be captured of a payment intent: it is a charge of it, as much was authorised,
--- and nothing of that was captured yet
+-- a version of a charge holds what can be captured of a payment intent: it is its card charge, what can be captured is what
+-- is left of what was authorised, and nothing was captured yet
 pub record Holds (object : ℕ) (waiting : Intent) (charge : Charge) : Type 0 where
   pub sort : charge.sort ≡ charge_sort.Card object
-  pub amount : waiting.amount_capturable ≤ charge.amount
+  pub amount : waiting.amount_capturable + charge.amount_captured ≡ charge.amount
   pub nothing : charge.amount_captured ≡ 0
 
 -- the charge that was found holds it, and one was found

@@ -78,7 +78,7 @@ captured_enters state entry account row intent n last charge amount found ready 
     captured_is = sums.capture_is state.rows n amount batch last charge refl latest is
 
     enough : amount ≤ charge.amount
-    enough = let authorised : intent.amount_capturable ≤ charge.amount = holds.amount in omega arith
+    enough = let authorised : intent.amount_capturable + charge.amount_captured ≡ charge.amount = holds.amount in omega arith
 
     told : IsUnderway state (with_told account row.object received event.IntentSucceeded captured)
     told =

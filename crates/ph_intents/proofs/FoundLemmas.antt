@@ -1,6 +1,6 @@
 -- A payment intent that is found among sound rows, and what an operation on it may add.
 use Rattle.std.specs.Prelude.{option_and_then}
-use Rattle.std.proofs.Common.{◌≡◌, ℕ, ◌≤◌, ◌∙◌, true, codes, List, [], ◌++◌, Option, None, Some, length, refl, sym, ap, subst, arith}
+use Rattle.std.proofs.Common.{◌≡◌, ℕ, ◌+◌, ◌≤◌, ◌∙◌, true, codes, List, [], ◌++◌, Option, None, Some, length, refl, sym, ap, subst, arith}
 use Rattle.ph_base.specs.declared.acquirer.Method.{Method}
 use Rattle.ph_base.specs.declared.ids.Kind.TheVariants as kind
 use Rattle.ph_facts.specs.Outcomes.{Outcome}
@@ -96,25 +96,24 @@ found_within state account row intent sound found =
     let within : row.place ≤ length state.rows = (row_at_within row.place state.rows row found.stands).1 in
     omega arith
 
--- a version passes on what the version before it waits to capture: its charge stays, and it waits for no more
+-- a version passes on what the version before it waits to capture: its charge stays, and where it waits, it waits for as much
 pub record Passes (old new : Intent) : Type 0 where
   pub charge : new.latest_charge ≡ old.latest_charge
-  pub amount : new.amount_capturable ≤ old.amount_capturable
+  pub amount : new.status ≡ status.RequiresCapture → new.amount_capturable ≡ old.amount_capturable
   pub waits : new.status ≡ status.RequiresCapture → old.status ≡ status.RequiresCapture
 
-passes_on : (object : ℕ) (old new : Intent) (charge : Option Charge) → new.amount_capturable ≤ old.amount_capturable
+passes_on : (object : ℕ) (old new : Intent) (charge : Option Charge) → new.amount_capturable ≡ old.amount_capturable
     → IsHeldBy object old charge → IsHeldBy object new charge
-passes_on object old new None less held = absurd held
-passes_on object old new (Some charge) less held =
-    let enough : old.amount_capturable ≤ charge.amount = held.amount in
-    record { sort = held.sort; amount = omega arith; nothing = held.nothing }
+passes_on object old new None same held = absurd held
+passes_on object old new (Some charge) same held =
+    record { sort = held.sort; amount = ap (λ n. n + charge.amount_captured) same ∙ held.amount; nothing = held.nothing }
 
 -- so it is held as the version before it was
 pub found_waits : (state : ViewState) (account : ℕ) (row : Row) (old new : Intent) → IsSound state → IsFound state account row old
     → Passes old new → Waits state row.object new
 found_waits state account row old new sound found passes here =
     subst (λ (charge : Option ℕ). IsHeldBy row.object new (option_and_then (charge_of state.rows) charge)) (sym passes.charge)
-    (passes_on row.object old new (option_and_then (charge_of state.rows) old.latest_charge) passes.amount
+    (passes_on row.object old new (option_and_then (charge_of state.rows) old.latest_charge) (passes.amount here)
     (sound.laws.held row.object row old found.latest found.is (passes.waits here)))
 
 -- its latest charge has begun, where a version has the one before it

@@ -39,7 +39,7 @@ use Rattle.ph_intents.specs.Versions.{with_version, adds_told}
 use Rattle.ph_intents.specs.declared.statuses.Step.TheVariants as step
 use Rattle.ph_intents.proofs.EnterLemmas.{Waits, created_underway, created_enters, new_number, told_enters, version_enters}
 use Rattle.ph_intents.proofs.FoundLemmas.{IsFound, found_status, keeps_at, keeps_allowed, found_attempted, found_underway, found_texts, found_told, found_waits}
-use Rattle.ph_intents.proofs.StatusLemmas.{may_authenticate, may_cancel, may_confirm, may_fail, may_update, shows_led, waited_before}
+use Rattle.ph_intents.proofs.StatusLemmas.{canceled_waits, may_authenticate, may_cancel, may_confirm, may_fail, may_update, shows_led, waited_before}
 use Rattle.ph_intents.proofs.TextLemmas.{front_text, with_front, either_text, either_method, merged_kept}
 
 -- the texts of a payment intent behind the name of its payment method
@@ -105,7 +105,7 @@ cancel_keeps state entry account call ready texts =
     keeps_allowed state 2 (λ status. adds_told account row.object (canceled status) event.IntentCanceled batch)
     (next_status intent.status step.Cancel)
     (λ status to. found_told state entry account row intent (canceled status) event.IntentCanceled ready found refl kept
-    (record { charge = refl; amount = omega arith; waits = waited_before intent.status step.Cancel status to })
+    (record { charge = refl; amount = λ here. absurd (canceled_waits intent.status status to here); waits = waited_before intent.status step.Cancel status to })
     (may_cancel intent.status status to)))
 
 pub authenticate_keeps : KeepsSound no_texts 2 authenticate_outcome
@@ -118,7 +118,7 @@ authenticate_keeps state entry account call ready texts =
     keeps_allowed state 2 (λ status. attempted Authenticates account row.object (paying status) method.Authenticated batch)
     (next_status intent.status step.Authenticate)
     (λ status to. found_attempted state entry Authenticates account row intent (paying status) method.Authenticated ready found kept
-    (record { charge = refl; amount = omega arith; waits = waited_before intent.status step.Authenticate status to })
+    (record { charge = refl; amount = λ here. refl; waits = waited_before intent.status step.Authenticate status to })
     (may_authenticate intent.status status to).0 (may_authenticate intent.status status to).1))
 
 -- ---- the calls that change its texts
@@ -140,7 +140,7 @@ fail_authentication_keeps state entry account call ready texts =
     (next_status intent.status step.Fail)
     (λ status to. found_told state entry account row intent (failed status) sort ready found refl
     (failed_texts intent payment_error.NotAuthenticated status kept)
-    (record { charge = refl; amount = omega arith; waits = waited_before intent.status step.Fail status to })
+    (record { charge = refl; amount = λ here. refl; waits = waited_before intent.status step.Fail status to })
     (may_fail intent.status status to)))
 
 -- the texts of a payment intent that a payment method is to pay
@@ -171,7 +171,7 @@ confirm_keeps state entry account call ready texts =
         (next_status intent.status step.Confirm)
         (λ status to. found_attempted state entry Confirms account row intent (paying status) method.method ready found
         (paying_texts intent method status named kept)
-        (record { charge = refl; amount = omega arith; waits = waited_before intent.status step.Confirm status to })
+        (record { charge = refl; amount = λ here. refl; waits = waited_before intent.status step.Confirm status to })
         (may_confirm intent.status status to).0 (may_confirm intent.status status to).1)
 
 -- the texts of a payment intent after an update
@@ -207,7 +207,7 @@ update_keeps state entry account call ready texts =
     (λ status to. with_updated row.object intent.status (updated status)
     (found_underway state entry account row intent (updated status) ready found (updated_texts call intent status texts kept) refl)
     (found_waits state account row intent (updated status) ready.sound found
-    (record { charge = refl; amount = omega arith; waits = waited_before intent.status (step_of call) status to }))
+    (record { charge = refl; amount = λ here. refl; waits = waited_before intent.status (step_of call) status to }))
     (may_update state.rows row.object intent.status status (is_some call.payment_method)
     (is_some call.amount || is_some call.currency || is_some call.transfer_group) (found_status state account row intent found) to)))
   where

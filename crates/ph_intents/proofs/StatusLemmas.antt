@@ -66,6 +66,21 @@ captured_step status.RequiresCapture found e = (refl, same_status status.Succeed
 captured_step status.Succeeded found e = absurd (no_status found e)
 captured_step status.Canceled found e = absurd (no_status found e)
 
+-- a cancel leads to one that is canceled
+canceled_step : (before found : IntentStatus) → next_status before step.Cancel ≡ Some found → status.Canceled ≡ found
+unfolding next_status
+canceled_step status.RequiresPaymentMethod found e = same_status status.Canceled found e
+canceled_step status.RequiresConfirmation found e = same_status status.Canceled found e
+canceled_step status.RequiresAction found e = same_status status.Canceled found e
+canceled_step status.Processing found e = absurd (no_status found e)
+canceled_step status.RequiresCapture found e = same_status status.Canceled found e
+canceled_step status.Succeeded found e = absurd (no_status found e)
+canceled_step status.Canceled found e = absurd (no_status found e)
+
+-- which waits for no capture
+pub canceled_waits : (before found : IntentStatus) → next_status before step.Cancel ≡ Some found → found ≡ status.RequiresCapture → ⊥
+canceled_waits before found e waits = let clash : status.Canceled ≡ status.RequiresCapture = canceled_step before found e ∙ waits in cc
+
 -- ---- what each step may do
 
 -- a cancel, a failure to authenticate and a capture put it where it may be put
