@@ -1,6 +1,7 @@
 //! The book.
 ghost use Rattle.std.specs.Prelude.{◌≡◌, ◌+◌, ◌^◌, ◌<◌, ◌≤◌, ◌↔◌, ◌∷◌, ◌++◌, [], false, length, None, Some, IfOk, IfErr, OnOk, OnErr, IsTrue};
 ghost use Rattle.ph_attempts.specs.Attempts.{Begins};
+ghost use Rattle.ph_doings.specs.Kept.{step_of};
 ghost use Rattle.ph_items.specs.Clocks.{clock_limit};
 ghost use Rattle.ph_lock.specs.declared.object.Refused.{Refused};
 ghost use Rattle.ph_book.specs.declared.acts.Deed.TheVariants as deed;
@@ -159,7 +160,7 @@ impl Book {
     fn enter_called(&mut self, caller: u64, raw: Raw, called: Called) -> Result<Answer, Raw>
         requires caller { caller < 2 ^ 62 }
         requires room { is_full self.old.setup self.old.history (deed.Call raw) ≡ false }
-        requires called { IsCalled (time_of self.old.setup self.old.history) (length self.old.history + 1) caller (effect_to self.old.setup self.old.history (call_entry caller raw)) called }
+        requires called { IsCalled (time_of self.old.setup self.old.history) (effect_to self.old.setup self.old.history (call_entry caller raw)) called }
         ensures entry { OnOk result (self.new ≡ entered self.old (call_entry caller raw)) }
         ensures answer { IfOk result (λ answer. Says (length self.old.history + 1) caller (said_to self.old.setup self.old.history (call_entry caller raw)) answer) }
         ensures live { IfOk result (λ answer. HandsOut self.new.setup self.new.history caller answer) }
@@ -182,7 +183,7 @@ impl Book {
         requires caller { caller < 2 ^ 62 }
         requires room { is_full self.old.setup self.old.history (deed.Call raw) ≡ false }
         requires rows { (effect_to self.old.setup self.old.history (call_entry caller raw)).rows ≡ rows.items }
-        requires step { (effect_to self.old.setup self.old.history (call_entry caller raw)).step ≡ None }
+        requires step { step_of (effect_to self.old.setup self.old.history (call_entry caller raw)).doing ≡ None }
         requires now { (effect_to self.old.setup self.old.history (call_entry caller raw)).now ≡ now }
         ensures entry { OnOk result (self.new ≡ entered self.old (call_entry caller raw)) }
         ensures unchanged { IfErr result (λ back. (back ≡ raw) × (self.new ≡ self.old)) }
@@ -210,7 +211,7 @@ impl Book {
         requires caller { caller < 2 ^ 62 }
         requires room { is_full self.old.setup self.old.history (deed.Call raw) ≡ false }
         requires rows { (effect_to self.old.setup self.old.history (call_entry caller raw)).rows ≡ rows.items }
-        requires step { (effect_to self.old.setup self.old.history (call_entry caller raw)).step ≡ Some (Begins (record { caller = caller; run = length self.old.history + 1; order = order })) }
+        requires step { step_of (effect_to self.old.setup self.old.history (call_entry caller raw)).doing ≡ Some (Begins (record { caller = caller; run = length self.old.history + 1; order = order })) }
         requires now { (effect_to self.old.setup self.old.history (call_entry caller raw)).now ≡ time_of self.old.setup self.old.history }
         ensures entry { OnOk result (self.new ≡ entered self.old (call_entry caller raw)) }
         ensures ticket { IfOk result (λ ticket. ticket ≡ record { caller = caller; run = length self.old.history + 1; order = order }) }

@@ -60,23 +60,6 @@ status_same past state object order shown = at (status_of past object) refl
         let there = (past_is_in_rows past state order shown).intent object put is in
         status_found state.rows object there.row there.intent there.latest there.item_is ∙ ap Some there.status_is
 
--- an attempt that a row shows parked is parked
-parked_is : (shown : State) → state_shown shown ≡ state.Parked → shown ≡ Parked
-parked_is Live is = absurd (cc)
-parked_is Parked is = refl
-parked_is (Settled ruling.Approved) is = absurd (cc)
-parked_is (Settled (ruling.Declined decline)) is = absurd (cc)
-parked_is (Settled ruling.Challenge) is = absurd (cc)
-
-parked_stands : (past : List Doing) (rows : List Row) (intent : ℕ) (order : Order) → shown_in rows ≡ shown_of past
-    → HasAttempt rows order.reference intent order state.Parked → standing_of past order.reference ≡ Stands intent order Parked
-parked_stands past rows intent order shown there =
-    let stands = (rows_say_past past rows shown).attempt order.reference there.row there.attempt there.latest there.item_is in
-    stands.standing_is
-    ∙ ap (λ i. Stands i there.attempt.order stands.state) there.intent_is
-    ∙ ap (λ o. Stands intent o stands.state) there.order_is
-    ∙ ap (Stands intent order) (parked_is stands.state (stands.state_is ∙ there.state_is))
-
 pub rows_let_come : RowsLetCome
 rows_let_come past state caller Untouched order shown may = tt
 rows_let_come past state caller (Puts intent put) order shown may =
@@ -87,7 +70,7 @@ rows_let_come past state caller (Begins cause intent asked) order shown may = (
   ((rows_say_past past state.rows shown).none asked.reference may.0).1,
   ap (may_begin cause) (sym (status_same past state intent order shown)) ∙ may.1,
 )
-rows_let_come past state caller (Resumes intent asked) order shown may = (refl, parked_stands past state.rows intent asked shown may)
+rows_let_come past state caller (Resumes intent asked) order shown may = absurd may
 rows_let_come past state caller (Parks intent asked) order shown may = absurd may
 rows_let_come past state caller (Settles intent asked capture how) order shown may = absurd may
 

@@ -2,9 +2,8 @@
 use Rattle.std.specs.Prelude.{◌≡◌, ℕ, ◌+◌, ◌^◌, ◌≤◌, ◌<◌, ◌==◌, ◌||◌, Bool, true, List, [], Some, None, length}
 use Rattle.ph_errors.specs.declared.api_error.ApiError.{ApiError}
 use Rattle.ph_items.specs.Weights.{AreUtf8}
-use Rattle.ph_items.specs.declared.attempts.AttemptState.TheVariants as state
 use Rattle.ph_facts.specs.Outcomes.{Outcome, Refuses, Adds}
-use Rattle.ph_facts.specs.Shown.{HasAttempt, shown_in, shows, status_in}
+use Rattle.ph_facts.specs.Shown.{shown_in, shows, status_in}
 use Rattle.ph_facts.specs.Statuses.{may_begin, may_put}
 use Rattle.ph_facts.specs.Touches.{Touch, Untouched, Puts, Edits, Begins, Resumes, Parks, Settles}
 use Rattle.ph_rows.specs.declared.rows.Row.{Row}
@@ -37,15 +36,15 @@ abbrev pub is_refusal : ApiError → Bool
 is_refusal error = error.status == 400 || error.status == 404
 
 -- what a call may do after rows: nothing; a payment intent is put where the table of statuses says, or edited at its status; an
--- attempt begins under a number that is new, of a payment intent that may be confirmed or waits for its customer; a parked
--- attempt is taken up again with its order. No call ends a run
+-- attempt begins under a number that is new, of a payment intent that may be confirmed or waits for its customer. No call by
+-- itself takes an attempt up again, or ends a run
 abbrev pub MayBeDone : List Row → Touch → Type 0
 MayBeDone rows Untouched = Unit {0}
 MayBeDone rows (Puts intent status) = may_put (status_in rows intent) status ≡ true
 MayBeDone rows (Edits intent status) = status_in rows intent ≡ Some status
 MayBeDone rows (Begins cause intent order) =
     (latest_of order.reference rows ≡ None) × (may_begin cause (status_in rows intent) ≡ true)
-MayBeDone rows (Resumes intent order) = HasAttempt rows order.reference intent order state.Parked
+MayBeDone rows (Resumes intent order) = ⊥
 MayBeDone rows (Parks intent order) = ⊥
 MayBeDone rows (Settles intent order capture ruling) = ⊥
 
