@@ -24,7 +24,13 @@ use Rattle.ph_calls.specs.Reading.{reading_of}
 use Rattle.ph_calls.specs.Fit as calls
 use Rattle.ph_calls.proofs.FitLemmas.{reading_fit}
 
+use Rattle.ph_disputes.specs.Answers.{evidence_outcome}
+use Rattle.ph_disputes.specs.Closing.{close_outcome}
+use Rattle.ph_intents.specs.Cancel.{cancel_outcome}
 use Rattle.ph_intents.specs.Capture.{capture_outcome}
+use Rattle.ph_intents.specs.Confirm.{confirm_outcome}
+use Rattle.ph_intents.specs.Update.{update_outcome}
+use Rattle.ph_refunds.specs.Refunds.{refund_outcome}
 use Rattle.ph_intents.specs.Create.{create_confirmed_outcome, create_outcome}
 use Rattle.ph_intents.proofs.CaptureLemmas.{capture_keeps}
 use Rattle.ph_intents.proofs.KeepsLemmas.{create_keeps, create_confirmed_keeps, update_keeps, confirm_keeps, authenticate_keeps, fail_authentication_keeps, cancel_keeps}
@@ -45,7 +51,7 @@ KeepsCall state (Sets moment) = (state.time ≤ moment) × (moment ≤ clock_lim
 -- a retrieve
 retrieved_keeps : (state : ViewState) (entry : ℕ) (wanted : Kind) (id : List ℕ) → IsSound state
     → KeepsRows state most_rows (retrieved state.rows wanted id (batch_after state entry))
-retrieved_keeps state entry wanted id sound = kept_few state 0 most_rows _ (at (owned_named state.rows platform wanted id)) (omega arith)
+retrieved_keeps state entry wanted id sound = kept_few state 0 most_rows (retrieved state.rows wanted id (batch_after state entry)) (at (owned_named state.rows platform wanted id)) (omega arith)
   where
     at : (found : Option Row) → KeepsRows state 0 (found_outcome found (batch_after state entry))
     at None = no_object (codes "id")
@@ -82,24 +88,24 @@ carried_keeps : (state : ViewState) (entry : ℕ) (c : Call) → IsReady state �
 carried_keeps state entry (call.CreateIntent c) ready fit =
     chosen (KeepsRows state most_rows) c.confirm (create_confirmed_outcome state.rows platform c (batch_after state entry))
     (create_outcome state.rows platform c (batch_after state entry))
-    (kept_few state 3 most_rows _ (create_confirmed_keeps state entry platform c ready fit.texts) (omega arith))
-    (kept_few state 2 most_rows _ (create_keeps state entry platform c ready fit.texts) (omega arith))
+    (kept_few state 3 most_rows (create_confirmed_outcome state.rows platform c (batch_after state entry)) (create_confirmed_keeps state entry platform c ready fit.texts) (omega arith))
+    (kept_few state 2 most_rows (create_outcome state.rows platform c (batch_after state entry)) (create_keeps state entry platform c ready fit.texts) (omega arith))
 carried_keeps state entry (call.GetIntent c) ready fit = retrieved_keeps state entry kind.Intent c.id ready.sound
-carried_keeps state entry (call.UpdateIntent c) ready fit = kept_few state 1 most_rows _ (update_keeps state entry platform c ready fit.texts) (omega arith)
-carried_keeps state entry (call.ConfirmIntent c) ready fit = kept_few state 2 most_rows _ (confirm_keeps state entry platform c ready fit.texts) (omega arith)
+carried_keeps state entry (call.UpdateIntent c) ready fit = kept_few state 1 most_rows (update_outcome state.rows platform c (batch_after state entry)) (update_keeps state entry platform c ready fit.texts) (omega arith)
+carried_keeps state entry (call.ConfirmIntent c) ready fit = kept_few state 2 most_rows (confirm_outcome state.rows platform c (batch_after state entry)) (confirm_keeps state entry platform c ready fit.texts) (omega arith)
 carried_keeps state entry (call.CaptureIntent c) ready fit =
     opened_keeps state 5 (capture_outcome state.rows platform c (batch_after state entry)) ready (omega arith) (capture_keeps state entry platform c ready refl)
-carried_keeps state entry (call.CancelIntent c) ready fit = kept_few state 2 most_rows _ (cancel_keeps state entry platform c ready refl) (omega arith)
+carried_keeps state entry (call.CancelIntent c) ready fit = kept_few state 2 most_rows (cancel_outcome state.rows platform c (batch_after state entry)) (cancel_keeps state entry platform c ready refl) (omega arith)
 carried_keeps state entry (call.GetCharge c) ready fit = retrieved_keeps state entry kind.Charge c.id ready.sound
-carried_keeps state entry (call.CreateRefund c) ready fit = kept_few state 4 most_rows _ (refund_keeps state entry platform c ready fit.texts) (omega arith)
+carried_keeps state entry (call.CreateRefund c) ready fit = kept_few state 4 most_rows (refund_outcome state.rows platform c (batch_after state entry)) (refund_keeps state entry platform c ready fit.texts) (omega arith)
 carried_keeps state entry (call.GetRefund c) ready fit = retrieved_keeps state entry kind.Refund c.id ready.sound
 carried_keeps state entry (call.GetDispute c) ready fit = retrieved_keeps state entry kind.Dispute c.id ready.sound
-carried_keeps state entry (call.SendEvidence c) ready fit = kept_few state 3 most_rows _ (evidence_keeps state entry platform c ready fit.texts) (omega arith)
-carried_keeps state entry (call.CloseDispute c) ready fit = kept_few state 2 most_rows _ (close_keeps state entry platform c ready refl) (omega arith)
+carried_keeps state entry (call.SendEvidence c) ready fit = kept_few state 3 most_rows (evidence_outcome state.rows platform c (batch_after state entry)) (evidence_keeps state entry platform c ready fit.texts) (omega arith)
+carried_keeps state entry (call.CloseDispute c) ready fit = kept_few state 2 most_rows (close_outcome state.rows platform c (batch_after state entry)) (close_keeps state entry platform c ready refl) (omega arith)
 carried_keeps state entry (call.GetBalance c) ready fit = tt
 carried_keeps state entry (call.GetTxn c) ready fit = retrieved_keeps state entry kind.Txn c.id ready.sound
 carried_keeps state entry (call.SetClock c) ready fit = clock_keeps state c.now fit.shown
-carried_keeps state entry (call.Authenticate c) ready fit = kept_few state 2 most_rows _ (authenticated_keeps state entry c c.outcome ready) (omega arith)
+carried_keeps state entry (call.Authenticate c) ready fit = kept_few state 2 most_rows (authenticated state.rows c (batch_after state entry) c.outcome) (authenticated_keeps state entry c c.outcome ready) (omega arith)
 
 read_keeps : (state : ViewState) (entry : ℕ) (reading : Result Call ApiError) → IsReady state → IfRefused reading → IfOk reading calls.IsFit
     → KeepsCall state (read_upshot state.rows state.time reading (batch_after state entry))

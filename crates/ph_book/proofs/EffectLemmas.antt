@@ -7,7 +7,9 @@ use Rattle.std.proofs.lemmas.Bool.{eqb-true}
 use Rattle.ph_base.specs.declared.acquirer.Ruling.{Ruling}
 use Rattle.ph_base.specs.declared.acquirer.Why.{Why}
 use Rattle.ph_attempts.specs.declared.flights.Flight.{Flight}
+use Rattle.ph_http.specs.declared.message.Raw.{Raw}
 use Rattle.ph_http.specs.declared.message.Reply.{Reply}
+use Rattle.ph_book.specs.Called.{Steps}
 use Rattle.ph_items.specs.Clocks.{clock_limit}
 use Rattle.ph_items.specs.Items.{attempt_in}
 use Rattle.ph_items.specs.Kinds.{kind_of}
@@ -19,7 +21,7 @@ use Rattle.ph_items.specs.declared.orders.Order.{Order}
 use Rattle.ph_rows.specs.declared.rows.Row.{Row}
 use Rattle.ph_rows.specs.declared.batches.Announced.{Announced}
 use Rattle.ph_rows.specs.Batches.{BatchState, empty_batch, event_rows, last_place, made_rows, with_row}
-use Rattle.ph_rows.specs.Rows.{latest_of}
+use Rattle.ph_rows.specs.Rows.{latest_of, row_at}
 use Rattle.ph_rows.specs.Views.{ViewState}
 use Rattle.ph_facts.specs.Keeps.{IsDone, IsReady, KeepsRows, MayBeAdded, MayBeDone, batch_after, most_rows}
 use Rattle.ph_facts.specs.Order.{AllMayFollow}
@@ -44,6 +46,7 @@ use Rattle.ph_doings.proofs.Coming.{live_runs_may_end, rows_let_come}
 use Rattle.ph_doings.proofs.LawProofs.{live_is_run}
 use Rattle.ph_intents.specs.Settle.{settle_outcome}
 use Rattle.ph_intents.proofs.SettleLemmas.{settle_keeps}
+use Rattle.ph_disputes.specs.Due.{open_due_of}
 use Rattle.ph_disputes.proofs.OpeningLemmas.{open_due_keeps}
 use Rattle.ph_book.specs.declared.setup.Setup.{Setup}
 use Rattle.ph_book.specs.declared.acts.Deed.{Deed}
@@ -167,10 +170,11 @@ done_opened : (state : ViewState) (most : ℕ) (touch : Touch) (object : ℕ) (o
     → IsDone state most touch object outcome → IsDone state most_rows touch object (and_opened state.rows outcome)
 done_opened state most touch object (Refuses error) ready less done = done
 done_opened state most touch object (Adds does shows_ batch) ready less done =
-    let added = done.1.1 in
+    let added = done.2 in
     let few = added.few in
     let room = ready.room in
-    (done.0, (done.1.0, added_few state (most + 4) most_rows touch _ (open_due_keeps state most touch batch shows_ ready.sound added (omega arith)) less))
+    (done.0, done.1, added_few state (most + 4) most_rows touch (open_due_of state.rows shows_ batch)
+    (open_due_keeps state most touch batch shows_ ready.sound added (omega arith)) less)
 
 -- the end of a run, of what may come
 ended_comes : (state : ViewState) (past : List Doing) (flight : Flight) (reply : Reply) (touch : Touch) (object : ℕ) (outcome : Outcome) → Stands state past
@@ -179,7 +183,7 @@ ended_comes : (state : ViewState) (past : List Doing) (flight : Flight) (reply :
 ended_comes state past flight reply touch object (Refuses error) stands done may = absurd done
 ended_comes state past flight reply touch object (Adds does shows_ batch) stands done may =
     added_comes state past _ flight.caller flight.run does batch stands
-    (subst (λ (t : Touch). MayBeAdded state most_rows t batch) (sym done.0) done.1.1)
+    (subst (λ (t : Touch). MayBeAdded state most_rows t batch) (sym done.0) done.2)
     (subst (λ (t : Touch). MayDo past (doing_of flight.caller flight.run t)) (sym done.0) may)
 
 -- a ruling on a live run settles its attempt, and shows its payment intent
@@ -213,7 +217,8 @@ parked_done : (state : ViewState) (place intent : ℕ) (order : Order) → IsRea
 parked_done state place intent order ready there =
     subst (IsDone state most_rows (Parks intent order) 0) (sym comes_to) (
       same,
-      (refl, subst (λ (t : Touch). MayBeAdded state most_rows t batch) same added),
+      refl,
+      subst (λ (t : Touch). MayBeAdded state most_rows t batch) same added,
     )
   where
     empty : BatchState
@@ -240,7 +245,7 @@ parked_done state place intent order ready there =
     begins : IsUnderway state empty
     begins = record { continues = record { began = refl; at = refl; follow = tt }; told = tt }
 
-    stands : _
+    stands : (row_at row.place state.rows ≡ Some row) × (row.object ≡ order.reference)
     stands = latest_of_sound state order.reference row ready.sound there.latest
 
     under : IsUnderway state batch
@@ -318,3 +323,24 @@ effect_comes setup state past place caller (deed.Park run why) stands next clock
 effect_comes setup state past place caller (deed.Tick moment) stands next clock =
     let shown = stands.ready.sound.order.clock in
     nothing_comes state past _ (max state.time moment) stands (omega arith) (omega arith)
+
+-- ---- the steps of calls
+
+call_steps : (state : ViewState) (place caller : ℕ) (upshot : Upshot) → KeepsCall state upshot
+    → Steps caller place (call_effect None state.rows state.time place caller upshot)
+call_steps state place caller (Rejects error) keeps = refl
+call_steps state place caller (Makes (Refuses error)) keeps = refl
+call_steps state place caller (Makes (Adds Untouched object batch)) keeps = refl
+call_steps state place caller (Makes (Adds (Puts intent status) object batch)) keeps = refl
+call_steps state place caller (Makes (Adds (Edits intent status) object batch)) keeps = refl
+call_steps state place caller (Makes (Adds (Begins cause intent order) object batch)) keeps = refl
+call_steps state place caller (Makes (Adds (Resumes intent order) object batch)) keeps = absurd keeps.1
+call_steps state place caller (Makes (Adds (Parks intent order) object batch)) keeps = absurd keeps.1
+call_steps state place caller (Makes (Adds (Settles intent order capture ruling) object batch)) keeps = absurd keeps.1
+call_steps state place caller (Shows doc) keeps = refl
+call_steps state place caller (Sets moment) keeps = refl
+
+pub raw_steps : (setup : Setup) (state : ViewState) (past : List Doing) (place caller : ℕ) (raw : Raw) → IsReady state
+    → Steps caller place (effect_of setup past state.rows state.time place caller (deed.Call raw))
+raw_steps setup state past place caller raw ready =
+    call_steps state place caller (called_at setup.key state.rows state.time place raw) (called_keeps setup.key state place raw ready)

@@ -57,6 +57,12 @@ time_more setup past h = fold-append (λ (now : ℕ) (x : Happening). x.now) set
 pub doings_more : (past : List Happening) (h : Happening) → doings_after (past ++ h ∷ []) ≡ h.doing ∷ doings_after past
 doings_more past h = fold-append (λ (doings : List Doing) (x : Happening). x.doing ∷ doings) [] past (h ∷ [])
 
+pub doings_grow : (setup : Setup) (history : List Entry) (entry : Entry)
+    → doings_of setup (history ++ entry ∷ []) ≡ (effect_to setup history entry).doing ∷ doings_of setup history
+unfolding doings_of effect_to
+doings_grow setup history entry =
+    ap doings_after (past_more setup history entry) ∙ doings_more (past_of setup history) (happening_of setup (past_of setup history) entry)
+
 -- the weight of rows, and of more rows behind them
 pub rows_weight_append : (rows more : List Row) → rows_weight (rows ++ more) ≡ rows_weight rows + rows_weight more
 rows_weight_append [] more = omega arith

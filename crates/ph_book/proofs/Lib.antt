@@ -7,3 +7,5 @@ pub mod LawLemmas
 pub mod StepLemmas
 pub mod StoreLemmas
 pub mod MoneyLemmas
+pub mod ReplyLemmas
+pub mod CalledLemmas
