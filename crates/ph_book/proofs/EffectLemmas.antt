@@ -212,7 +212,7 @@ finish_comes state past place caller run ruling (Some flight) stands own =
     (may.settles capture ruling)
 
 -- a park of a live attempt
-parked_done : (state : ViewState) (place intent : ℕ) (order : Order) → IsReady state → HasAttempt state.rows order.reference intent order attempt_state.Live
+pub parked_done : (state : ViewState) (place intent : ℕ) (order : Order) → IsReady state → HasAttempt state.rows order.reference intent order attempt_state.Live
     → IsDone state most_rows (Parks intent order) 0 (parked_outcome state.rows state.time place order.reference)
 parked_done state place intent order ready there =
     subst (IsDone state most_rows (Parks intent order) 0) (sym comes_to) (
@@ -289,7 +289,7 @@ park_comes state past place caller run why (Some flight) stands own =
 abbrev pub Ends : Doing → Type 0
 Ends does = (runs_ended does ≡ 1) × (runs_begun does ≡ 0)
 
-done_touch : (state : ViewState) (most : ℕ) (touch : Touch) (object : ℕ) (outcome : Outcome) → IsDone state most touch object outcome → outcome_touch outcome ≡ touch
+pub done_touch : (state : ViewState) (most : ℕ) (touch : Touch) (object : ℕ) (outcome : Outcome) → IsDone state most touch object outcome → outcome_touch outcome ≡ touch
 done_touch state most touch object (Refuses error) done = absurd done
 done_touch state most touch object (Adds does shows_ batch) done = done.0
 
