@@ -78,7 +78,9 @@ returns-in-Err-Api c caller =
     let comes : called_at c.args.key.now store.rows store.time c.new-batch.result.entry c.args.raw.now ≡ Makes (Refuses c.in-Err-Api.error) =
     rw c.in-Err-Api.field-0-is at c.in-Err-Api.ensures in
     let is : called_at c.args.key.now store.rows store.time c.args.place c.args.raw.now ≡ Makes (Refuses c.in-Err-Api.error) = sym moved ∙ comes in
+    let said = ap (λ (u : Upshot). (call_effect None store.rows store.time c.args.place caller u).said) is in
+    let same = c.in-Err-Api.error-is in
     c.refused-in-Err-Api.ensures store.time (call_effect None store.rows store.time c.args.place caller (called_at c.args.key.now store.rows store.time c.args.place c.args.raw.now))
-    (ap (λ (u : Upshot). (call_effect None store.rows store.time c.args.place caller u).said) is)
+    (said ∙ ap (λ e. Replies (error_reply e)) same)
     (ap (λ (u : Upshot). (call_effect None store.rows store.time c.args.place caller u).rows) is)
     (ap (λ (u : Upshot). (call_effect None store.rows store.time c.args.place caller u).now) is ∙ sym c.time-in-Err-Api.ensures)
