@@ -81,6 +81,6 @@ returns-in-Err-Api c caller =
     let said = ap (λ (u : Upshot). (call_effect None store.rows store.time c.args.place caller u).said) is in
     let same = c.in-Err-Api.error-is in
     c.refused-in-Err-Api.ensures store.time (call_effect None store.rows store.time c.args.place caller (called_at c.args.key.now store.rows store.time c.args.place c.args.raw.now))
-    (said ∙ ap (λ e. Replies (error_reply e)) same)
+    (said ∙ ap (λ e. Replies (error_reply e)) (sym same))
     (ap (λ (u : Upshot). (call_effect None store.rows store.time c.args.place caller u).rows) is)
     (ap (λ (u : Upshot). (call_effect None store.rows store.time c.args.place caller u).now) is ∙ sym c.time-in-Err-Api.ensures)
