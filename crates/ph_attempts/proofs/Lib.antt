@@ -1,3 +1,1 @@
-pub mod EntryLemmas
-pub mod QueueLemmas
-pub mod RunLemmas
+pub mod ListLemmas

@@ -1,3 +1,1 @@
 pub mod Attempts
-pub mod Runs
-pub mod Laws

@@ -27,7 +27,7 @@ pub enum Attempt {
 impl Attempt {
     ghost use Rattle.std.specs.Prelude.{◌≡◌};
     ghost use Rattle.ph_attempts.specs.Attempts as spec;
-    ghost use Rattle.ph_attempts.specs.Attempts.{reference_of};
+    ghost use Rattle.ph_attempts.specs.Attempts.{order_of, reference_of};
 
     // The attempt of a live run.
     pub(crate) fn live(flight: &Flight) -> Self
@@ -43,6 +43,36 @@ impl Attempt {
         match self {
             Attempt::Live(flight) => flight.order.reference,
             Attempt::Parked(order) => order.reference,
+        }
+    }
+
+    // Whether it is live by this run of this caller.
+    pub(crate) fn is_live_as(&self, flight: &Flight) -> bool
+        ensures { result ≡ spec.is_live_as flight.now self.now }
+    {
+        match self {
+            Attempt::Live(other) => flight.run == other.run && flight.caller == other.caller,
+            Attempt::Parked(_) => false,
+        }
+    }
+
+    // Whether it is the parked attempt of this reference.
+    pub(crate) fn is_parked_under(&self, reference: u64) -> bool
+        ensures { result ≡ spec.is_parked_under reference self.now }
+    {
+        match self {
+            Attempt::Live(_) => false,
+            Attempt::Parked(order) => reference == order.reference,
+        }
+    }
+
+    // What the acquirer is asked of it.
+    pub(crate) fn order(&self) -> Order
+        ensures { result ≡ order_of self.now }
+    {
+        match self {
+            Attempt::Live(flight) => flight.order,
+            Attempt::Parked(order) => *order,
         }
     }
 

@@ -3,13 +3,9 @@
 #![tactic(auto)]
 
 mod flights;
-mod laws;
 mod unsettled;
 
 pub use flights::{Attempt, Flight, Ticket};
-pub use laws::{
-    attempts_are_unsettled, first_parked_is_earliest, live_is_run, one_run_each, steps_may_be_made,
-};
 pub use ph_base::{Decline, Method, Ruling, Why};
 pub use ph_items::Order;
 pub use unsettled::Attempts;

@@ -1,5 +1,7 @@
 -- The errors of requests have statuses that replies are written with, and none that is a park's.
-use Rattle.std.proofs.Common.{◌≡◌, ℕ, Bool, true, false, cond, not, ◌==◌, ◌&&◌, is_none, nat_lt, List, [], ◌∷◌, Option, Some, None, option_map, Result, Ok, Err, find, refl, codes}
+use Rattle.std.proofs.Common.{◌≡◌, ℕ, Bool, true, false, cond, not, ◌==◌, ◌&&◌, is_none, nat_lt, List, [], ◌∷◌, Option, Some, None, option_map, Result, Ok, Err, find, refl, sym, subst, codes, ◌||◌}
+use Rattle.std.proofs.lemmas.Bool.{eqb-true, false≢true}
+use Rattle.ph_facts.specs.Keeps.{is_refusal}
 use Rattle.std.specs.Option.{option_or}
 use Rattle.ph_errors.specs.declared.api_error.ApiError.{ApiError}
 use Rattle.ph_errors.specs.Table.{Problem, InvalidApiKey, NoSuchAccount, UnrecognizedUrl, BadName, Clash, TooDeep, ParameterUnknown, ParameterMissing, ParameterInvalidInteger, AmountTooSmall, AmountTooLarge, InvalidValue, NoSuchPaymentMethod, KeyTooLong, KeyNotText, KeyDiffers, KeyInUse, NoSuchObject, UnexpectedState, ChargeNotCaptured, DisputeClosed, ChargeAlreadyRefunded, ChargeDisputed, PlatformOnly, BalanceInsufficient, ClockBackwards, CardDeclined, NotAuthenticated, AcquirerPending, AcquirerFailed, NoMemory, HistoryFull, Malformed, BodyTooLarge, HeadTooLarge, NotImplemented, VersionNotSupported, error_of}
@@ -212,3 +214,12 @@ at_answered (To line id) query body = by_line_answered line id (leaves_of (pairs
 -- a request that is refused as it is read
 pub reading_answered : (raw : Raw) → IfRefused (reading_of raw)
 reading_answered raw = at_answered _ _ _
+
+-- so has an operation's refusal
+pub refusal_answered : (error : ApiError) → is_refusal error ≡ true → IsAnswered error
+refusal_answered error is = at (error.status == 400) (error.status == 404) refl refl is
+  where
+    at : (one other : Bool) → (error.status == 400) ≡ one → (error.status == 404) ≡ other → (one || other) ≡ true → IsAnswered error
+    at true other e f h = subst (λ status. is_served status ≡ true) (sym (eqb-true error.status 400 e)) refl
+    at false true e f h = subst (λ status. is_served status ≡ true) (sym (eqb-true error.status 404 f)) refl
+    at false false e f h = absurd (false≢true h)

@@ -5,7 +5,9 @@ use Rattle.std.proofs.lemmas.List.{append-nil}
 use Rattle.std.proofs.lemmas.List.Sums.{fold-append, sum_by-append}
 use Rattle.std.proofs.lemmas.Grind.{flat_map-append}
 use Rattle.ph_attempts.specs.declared.flights.Attempt as flights
-use Rattle.ph_attempts.specs.Attempts.{Step}
+use Rattle.ph_doings.specs.Doings.{Doing}
+use Rattle.ph_doings.specs.Kept.{after_step, attempts_after, step_of}
+use Rattle.ph_doings.specs.Runs.{live_runs}
 use Rattle.ph_rows.specs.declared.rows.Row.{Row}
 use Rattle.ph_items.specs.Clocks.{clock_limit}
 use Rattle.ph_rows.specs.Weights.{rows_weight}
@@ -19,9 +21,8 @@ use Rattle.ph_book.specs.declared.acts.Answer.TheVariants as answer
 use Rattle.ph_book.specs.Answers.{Says, replies_in}
 use Rattle.ph_book.specs.Entries.{IsWithinClock}
 use Rattle.ph_book.specs.Replies.{Said, Replies, Waits, Silence, replies_said}
-use Rattle.ph_book.specs.History.{Happening, opening_row, rows_after, time_after, attempts_after, effect_of, happening_of, and_then, past_of, rows_of, time_of, attempts_of, effect_to, said_to, replies_of}
+use Rattle.ph_book.specs.History.{Happening, opening_row, rows_after, time_after, doings_after, effect_of, happening_of, and_then, past_of, rows_of, time_of, doings_of, effect_to, said_to, replies_of}
 use Rattle.ph_book.specs.Legal.{EndsOwn, deed_weight, weight_after, used_after, is_full_at, is_full_after, is_full, IsAllowed, AreAllowed}
-use Rattle.ph_book.specs.Runs.{after_step, live_of}
 use Rattle.ph_book.specs.State.{BookState, entered, IsBook}
 
 -- a history with one entry more is read as the one before, and then the entry
@@ -52,9 +53,15 @@ rows_more setup past h =
 pub time_more : (setup : Setup) (past : List Happening) (h : Happening) → time_after setup (past ++ h ∷ []) ≡ h.now
 time_more setup past h = fold-append (λ (now : ℕ) (x : Happening). x.now) setup.opened past (h ∷ [])
 
--- the attempts with one happening more
-pub attempts_more : (past : List Happening) (h : Happening) → attempts_after (past ++ h ∷ []) ≡ after_step (attempts_after past) h.step
-attempts_more past h = fold-append (λ (attempts : List flights.Attempt) (x : Happening). after_step attempts x.step) [] past (h ∷ [])
+-- what was done with one happening more
+pub doings_more : (past : List Happening) (h : Happening) → doings_after (past ++ h ∷ []) ≡ h.doing ∷ doings_after past
+doings_more past h = fold-append (λ (doings : List Doing) (x : Happening). x.doing ∷ doings) [] past (h ∷ [])
+
+pub doings_grow : (setup : Setup) (history : List Entry) (entry : Entry)
+    → doings_of setup (history ++ entry ∷ []) ≡ (effect_to setup history entry).doing ∷ doings_of setup history
+unfolding doings_of effect_to
+doings_grow setup history entry =
+    ap doings_after (past_more setup history entry) ∙ doings_more (past_of setup history) (happening_of setup (past_of setup history) entry)
 
 -- the weight of rows, and of more rows behind them
 pub rows_weight_append : (rows more : List Row) → rows_weight (rows ++ more) ≡ rows_weight rows + rows_weight more
@@ -113,37 +120,39 @@ allowed_more setup past (first ∷ entries) entry before here =
 -- what a deed comes to over what a book keeps is what it comes to after the history
 pub effect_is : (setup : Setup) (history : List Entry) (rows : List Row) (time weight : ℕ) (attempts : List flights.Attempt) (live place : ℕ) (entry : Entry)
     → IsBook setup history rows time weight attempts live → place ≡ length history + 1
-    → effect_of setup rows time attempts place entry.caller entry.deed ≡ effect_to setup history entry
-unfolding rows_of time_of attempts_of effect_to
+    → effect_of setup (doings_of setup history) rows time place entry.caller entry.deed ≡ effect_to setup history entry
+unfolding rows_of time_of doings_of effect_to
 effect_is setup history rows time weight attempts live place entry b at =
     let places : place ≡ length (past_of setup history) + 1 = at ∙ ap (λ n. n + 1) (sym (length_past setup history)) in
     let rows_are : rows ≡ rows_after setup (past_of setup history) = b.rows_are in
     let time_is : time ≡ time_after setup (past_of setup history) = b.time_is in
-    let attempts_are : attempts ≡ attempts_after (past_of setup history) = b.attempts_are in
-    ap (λ (p : List Row × (ℕ × (List flights.Attempt × ℕ))). effect_of setup p.0 p.1.0 p.1.1.0 p.1.1.1 entry.caller entry.deed)
-    (λ i. (rows_are i, (time_is i, (attempts_are i, places i))))
+    ap (λ (p : List Row × (ℕ × ℕ)). effect_of setup (doings_after (past_of setup history)) p.0 p.1.0 p.1.1 entry.caller entry.deed)
+    (λ i. (rows_are i, (time_is i, places i)))
 
--- what a book keeps after one entry more, which comes to these rows, this step and this time
+-- what a book keeps after one entry more, which comes to these rows, does this, and leaves this time
 pub book_more : (setup : Setup) (history : List Entry) (rows : List Row) (time weight : ℕ) (attempts : List flights.Attempt) (live : ℕ) (entry : Entry)
-    (new : List Row) (step : Option Step) (now live' : ℕ) → IsBook setup history rows time weight attempts live
-    → IsAllowed setup (past_of setup history) entry → (effect_to setup history entry).rows ≡ new → (effect_to setup history entry).step ≡ step
-    → (effect_to setup history entry).now ≡ now → live' ≡ length (live_of (after_step attempts step))
-    → IsBook setup (history ++ entry ∷ []) (rows ++ new) now ((weight + deed_weight entry.deed) + rows_weight new) (after_step attempts step) live'
-unfolding rows_of time_of attempts_of effect_to
-book_more setup history rows time weight attempts live entry new step now live' b allowed made stepped timed counted =
+    (new : List Row) (does : Doing) (now live' : ℕ) → IsBook setup history rows time weight attempts live
+    → IsAllowed setup (past_of setup history) entry → (effect_to setup history entry).rows ≡ new → (effect_to setup history entry).doing ≡ does
+    → (effect_to setup history entry).now ≡ now → live' ≡ length (live_runs (does ∷ doings_of setup history))
+    → IsBook setup (history ++ entry ∷ []) (rows ++ new) now ((weight + deed_weight entry.deed) + rows_weight new) (after_step attempts (step_of does)) live'
+unfolding rows_of time_of doings_of effect_to
+book_more setup history rows time weight attempts live entry new does now live' b allowed made done timed counted =
     let past : List Happening = past_of setup history in
     let h : Happening = happening_of setup past entry in
     let grown : past_of setup (history ++ entry ∷ []) ≡ past ++ h ∷ [] = past_more setup history entry in
     let rows_are : rows ≡ rows_after setup past = b.rows_are in
-    let attempts_are : attempts ≡ attempts_after past = b.attempts_are in
+    let attempts_are : attempts ≡ attempts_after (doings_after past) = b.attempts_are in
+    let doings : does ∷ doings_after past ≡ doings_after (past_of setup (history ++ entry ∷ [])) =
+    sym (ap doings_after grown ∙ doings_more past h ∙ ap (λ d. d ∷ doings_after past) done) in
     record {
       rows_are = sym (ap (rows_after setup) grown ∙ rows_more setup past h ∙ ap (λ x. x ++ h.rows) (sym rows_are) ∙ ap (λ x. rows ++ x) made);
       time_is = sym (ap (time_after setup) grown ∙ time_more setup past h ∙ timed);
       weight_is = sym (ap (weight_after setup) grown ∙ weight_more setup past h
           ∙ ap (λ x. (x + deed_weight entry.deed) + rows_weight h.rows) (sym b.weight_is)
           ∙ ap (λ x. (weight + deed_weight entry.deed) + rows_weight x) made);
-      attempts_are = sym (ap attempts_after grown ∙ attempts_more past h ∙ ap (λ x. after_step x h.step) (sym attempts_are) ∙ ap (after_step attempts) stepped);
-      live_is = counted;
+      attempts_are = ap (λ x. after_step x (step_of does)) attempts_are ∙ ap attempts_after doings;
+      live_is = counted ∙ ap (λ x. length (live_runs x)) doings;
+      few = b.few;
       legal = record { opened = b.legal.opened; allowed = allowed_more setup [] history entry b.legal.allowed allowed };
     }
 
@@ -159,11 +168,11 @@ book_is setup history history' rows rows' time time' weight weight' attempts att
 pub full_is : (book : BookState) (setup : Setup) (history : List Entry) (rows : List Row) (time weight : ℕ) (attempts : List flights.Attempt) (live used : ℕ) (deed : Deed) (test : Bool)
     → record { setup = setup; history = history } ≡ book → IsBook setup history rows time weight attempts live → used ≡ length history + live
     → test ≡ is_full_at setup used weight deed → is_full book.setup book.history deed ≡ test
-unfolding is_full attempts_of
+unfolding is_full doings_of
 full_is book setup history rows time weight attempts live used deed test is b count tested =
     let past : List Happening = past_of setup history in
     let size : length past ≡ length history = length_past setup history in
-    let counted : live ≡ length (live_of (attempts_after past)) = b.live_is ∙ ap (λ x. length (live_of x)) b.attempts_are in
+    let counted : live ≡ length (live_runs (doings_after past)) = b.live_is in
     let same : used ≡ used_after past = omega (arith, size, counted, count) in
     let here : is_full_at setup used weight deed ≡ is_full_after setup past deed =
     ap (λ (p : ℕ × ℕ). is_full_at setup p.0 p.1 deed) (λ i. (same i, b.weight_is i)) in
@@ -178,19 +187,20 @@ has_room full h = (λ clash. absurd (cc), λ full_is. absurd (cc))
 
 -- an entry that has room, ends a run of its own caller if any, and shows a moment of a clock if any, may come
 pub may_come : (setup : Setup) (history : List Entry) (caller : ℕ) (deed : Deed) → caller < 2 ^ 62 → IsWithinClock deed
-    → EndsOwn (attempts_of setup history) caller deed → is_full setup history deed ≡ false
+    → EndsOwn (doings_of setup history) caller deed → is_full setup history deed ≡ false
     → IsAllowed setup (past_of setup history) (record { caller = caller; deed = deed })
-unfolding is_full attempts_of
+unfolding is_full doings_of
 may_come setup history caller deed below clock own room = record { caller = below; clock = clock; own = own; room = room }
 
 -- a book without entries
-pub book_new : (setup : Setup) → setup.opened ≤ clock_limit → IsBook setup [] (opening_row setup.opened ∷ []) setup.opened 256 [] 0
-unfolding rows_of time_of attempts_of
-book_new setup opened = record {
+pub book_new : (setup : Setup) → setup.opened ≤ clock_limit → setup.entries < 2 ^ 32 → IsBook setup [] (opening_row setup.opened ∷ []) setup.opened 256 [] 0
+unfolding rows_of time_of doings_of
+book_new setup opened few = record {
   rows_are = refl;
   time_is = refl;
   weight_is = refl;
   attempts_are = refl;
   live_is = refl;
+  few = few;
   legal = record { opened = opened; allowed = tt };
 }

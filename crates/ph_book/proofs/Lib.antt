@@ -1,10 +1,11 @@
 pub mod ErrorLemmas
-pub mod RunLemmas
-pub mod FitLemmas
-pub mod HistoryLemmas
+pub mod CallLemmas
 pub mod EffectLemmas
+pub mod HistoryLemmas
+pub mod StandLemmas
 pub mod LawLemmas
 pub mod StepLemmas
 pub mod StoreLemmas
-pub mod SoundLemmas
 pub mod MoneyLemmas
+pub mod ReplyLemmas
+pub mod CalledLemmas

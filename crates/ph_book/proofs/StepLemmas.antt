@@ -1,49 +1,99 @@
 -- What a book keeps after one step more: a call, a ruling, a park.
-use Rattle.std.proofs.Common.{◌≡◌, ℕ, ◌+◌, ◌*◌, ◌^◌, ◌<◌, ◌≤◌, max, ◌∷◌, ◌++◌, Bool, false, List, [], length, Option, Some, None, find, refl, sym, ap, ◌∙◌, subst, arith}
+use Rattle.std.proofs.Common.{◌≡◌, ℕ, suc, ◌+◌, ◌*◌, ◌^◌, ◌≤◌, ◌<◌, ◌∷◌, ◌++◌, max, Bool, true, false, List, [], length, Option, Some, None, refl, sym, ap, ◌∙◌, subst, find, arith, ◌||◌, ◌&&◌, ◌==◌, cond}
+use Rattle.std.specs.List.{list_any}
+use Rattle.std.proofs.lemmas.Bool.{cond-true, eq-eqb}
+use Rattle.std.proofs.lemmas.Bool.Decides.{nat_tests}
 use Rattle.ph_base.specs.declared.acquirer.Ruling.{Ruling}
 use Rattle.ph_base.specs.declared.acquirer.Why.{Why}
+use Rattle.ph_attempts.specs.Attempts.{Step, Begins, Parks, Settles, after, has_live, is_live_as, live_in}
 use Rattle.ph_attempts.specs.declared.flights.Attempt as flights
-use Rattle.ph_attempts.specs.declared.flights.Attempt.TheVariants.{Live}
+use Rattle.ph_attempts.specs.declared.flights.Attempt.{Attempt}
+use Rattle.ph_attempts.specs.declared.flights.Attempt.TheVariants.{Live, Parked}
 use Rattle.ph_attempts.specs.declared.flights.Flight.{Flight}
-use Rattle.ph_attempts.specs.Attempts.{Step, Begins, Parks, Settles, after, entry_of}
-use Rattle.ph_rows.specs.declared.rows.Row.{Row}
-use Rattle.ph_items.specs.declared.attempts.Attempt.{Attempt}
-use Rattle.ph_rows.specs.Batches.{empty_batch}
-use Rattle.ph_items.specs.Items.{attempt_in}
-use Rattle.ph_rows.specs.Rows.{latest_of}
-use Rattle.ph_items.specs.Clocks.{clock_limit}
-use Rattle.ph_rows.specs.Weights.{rows_weight}
 use Rattle.ph_http.specs.declared.message.Raw.{Raw}
+use Rattle.ph_items.specs.Clocks.{clock_limit}
+use Rattle.ph_items.specs.Items.{attempt_in}
+use Rattle.ph_rows.specs.Batches.{empty_batch}
+use Rattle.ph_rows.specs.Rows.{latest_of}
+use Rattle.ph_rows.specs.Views.{ViewState}
+use Rattle.ph_rows.specs.Weights.{rows_weight}
+use Rattle.ph_rows.specs.declared.rows.Row.{Row}
+use Rattle.ph_facts.specs.Keeps.{most_rows}
+use Rattle.ph_facts.specs.Touches.{Touch}
+use Rattle.ph_facts.specs.Touches as touch
+use Rattle.ph_doings.specs.Doings.{Doing, Leaves, doing_of}
+use Rattle.ph_doings.specs.Doings as doing
+use Rattle.ph_doings.specs.Kept.{after_step, attempts_after, is_run, run_in, step_of}
+use Rattle.ph_doings.specs.Lawful.{IsLawful, MayDo}
+use Rattle.ph_doings.specs.Runs.{Flies, live_run, live_runs, runs_begun, runs_ended}
+use Rattle.ph_doings.proofs.Counted.{runs_are_counted}
+use Rattle.ph_doings.proofs.FoundRuns.{runs_are_found}
+use Rattle.ph_doings.proofs.KeptLists.{attempts_are_unsettled}
 use Rattle.ph_book.specs.declared.setup.Setup.{Setup}
-use Rattle.ph_book.specs.declared.acts.Entry.{Entry}
+use Rattle.ph_book.specs.declared.acts.Deed.{Deed}
 use Rattle.ph_book.specs.declared.acts.Deed.TheVariants as deed
+use Rattle.ph_book.specs.declared.acts.Entry.{Entry}
 use Rattle.ph_book.specs.declared.calls.Called.{Called}
 use Rattle.ph_book.specs.Called.{IsCalled}
 use Rattle.ph_book.specs.Calls.{called_at}
-use Rattle.ph_book.specs.Entries.{call_entry, finish_entry, park_entry, tick_entry}
-use Rattle.ph_book.specs.History.{Effect, attempts_of, call_effect, effect_of, effect_to, finish_effect, park_effect, parked_by, parked_from, parked_rows, said_to, tick_effect, time_of}
-use Rattle.ph_book.specs.Legal.{is_full, raw_weight}
+use Rattle.ph_book.specs.Entries.{IsWithinClock, call_entry, finish_entry, park_entry, tick_entry}
+use Rattle.ph_book.specs.History.{Effect, call_effect, doings_of, effect_of, effect_to, finish_effect, outcome_rows, outcome_touch, park_effect, parked_by, parked_from, parked_outcome, past_of, rows_of, ruled_outcome, said_to, tick_effect, time_of, view_of}
+use Rattle.ph_book.specs.Legal.{IsAllowed, deed_weight, is_full, raw_weight}
 use Rattle.ph_book.specs.Replies.{Silence}
-use Rattle.ph_book.specs.Runs.{after_step, is_run, live_of, run_in}
+use Rattle.ph_book.specs.Runs.{if_own, own_run}
 use Rattle.ph_book.specs.State.{BookState, IsBook}
 use Rattle.ph_book.specs.Tickets.{Holds}
-use Rattle.ph_book.proofs.EffectLemmas.{effect_later, effect_orderly, history_counted}
-use Rattle.ph_book.proofs.HistoryLemmas.{book_more, effect_is, may_come}
-use Rattle.ph_book.proofs.RunLemmas.{AreKept, IsNext, entry_of_run, found_begun, live_begun, live_parked, live_settled, none_above}
+use Rattle.ph_book.proofs.EffectLemmas.{Comes, Stands, done_touch, effect_comes, own_is, own_may_end, parked_done, ruled_done}
+use Rattle.ph_book.proofs.HistoryLemmas.{book_more, doings_grow, effect_is, length_past, may_come}
+use Rattle.ph_book.proofs.StandLemmas.{history_stands, legal_stands}
 
--- the attempts that a book keeps are those of a history
-kept_of : (setup : Setup) (history : List Entry) (rows : List Row) (time weight : ℕ) (attempts : List flights.Attempt) (live : ℕ)
-    → IsBook setup history rows time weight attempts live → AreKept (length history) (length rows) attempts
-kept_of setup history rows time weight attempts live b =
-    subst (λ (p : List Row × List flights.Attempt). AreKept (length history) (length p.0) p.1)
-    (λ i. (sym b.rows_are i, sym b.attempts_are i)) (history_counted setup history).kept
+-- ---- what a book keeps stands
+
+stands_of : (setup : Setup) (history : List Entry) (rows : List Row) (time weight : ℕ) (attempts : List flights.Attempt) (live : ℕ)
+    → IsBook setup history rows time weight attempts live → Stands (view_of setup history) (doings_of setup history)
+stands_of setup history rows time weight attempts live b = history_stands setup history b.few b.legal
+
+-- what an entry comes to after a legal history
+comes_of : (setup : Setup) (history : List Entry) (rows : List Row) (time weight : ℕ) (attempts : List flights.Attempt) (live : ℕ) (entry : Entry)
+    → IsBook setup history rows time weight attempts live → IsWithinClock entry.deed
+    → Comes (view_of setup history) (doings_of setup history) (effect_to setup history entry)
+unfolding rows_of time_of doings_of effect_to
+comes_of setup history rows time weight attempts live entry b clock =
+    let stood = legal_stands setup history b.few b.legal in
+    let places = stood.places in
+    effect_comes setup _ _ _ entry.caller entry.deed stood.stands (omega (arith, places)) clock
+
+-- ---- how many runs are live
+
+-- where a doing makes no step of an attempt, as many are
+quiet_runs : (does : Doing) → step_of does ≡ None → (runs_begun does ≡ 0) × (runs_ended does ≡ 0)
+quiet_runs Leaves e = (refl, refl)
+quiet_runs (doing.Puts intent status) e = (refl, refl)
+quiet_runs (doing.Edits intent status) e = (refl, refl)
+quiet_runs (doing.Begins cause intent flight) e = absurd (let no_step : Some (Begins flight) ≡ None = e in cc)
+quiet_runs (doing.Resumes intent flight) e = absurd (cc)
+quiet_runs (doing.Parks intent flight) e = absurd (cc)
+quiet_runs (doing.Settles intent flight capture ruling) e = absurd (cc)
+
+-- where it begins a run, that is live after it
+begins_run : (past : List Doing) (does : Doing) (flight : Flight) → step_of does ≡ Some (Begins flight)
+    → ((runs_begun does ≡ 1) × (runs_ended does ≡ 0)) × (live_run (does ∷ past) flight.run ≡ Flies flight)
+begins_run past Leaves flight e = absurd (cc)
+begins_run past (doing.Puts intent status) flight e = absurd (cc)
+begins_run past (doing.Edits intent status) flight e = absurd (cc)
+begins_run past (doing.Begins cause intent other) flight e =
+    let same : other ≡ flight = cc in
+    ((refl, refl), cond-true (flight.run == other.run) (Flies other) (live_run past flight.run) (eq-eqb flight.run other.run (ap (λ (f : Flight). f.run) (sym same))) ∙ ap Flies same)
+begins_run past (doing.Resumes intent other) flight e = absurd (cc)
+begins_run past (doing.Parks intent other) flight e = absurd (cc)
+begins_run past (doing.Settles intent other capture ruling) flight e = absurd (cc)
 
 -- ---- calls
 
 -- what a call comes to over what a book keeps
 pub call_is : (old : BookState) (setup : Setup) (history : List Entry) (rows : List Row) (time weight : ℕ) (attempts : List flights.Attempt) (live place caller : ℕ) (raw : Raw) (effect : Effect)
     → record { setup = setup; history = history } ≡ old → IsBook setup history rows time weight attempts live → place ≡ length history + 1
-    → call_effect rows time place caller (called_at setup.key rows time place raw) ≡ effect → effect_to old.setup old.history (call_entry caller raw) ≡ effect
+    → call_effect None rows time place caller (called_at setup.key rows time place raw) ≡ effect → effect_to old.setup old.history (call_entry caller raw) ≡ effect
 call_is old setup history rows time weight attempts live place caller raw effect is b at comes =
     subst (λ (x : BookState). effect_to x.setup x.history (call_entry caller raw) ≡ effect) is
     (sym (effect_is setup history rows time weight attempts live place (call_entry caller raw) b at) ∙ comes)
@@ -56,152 +106,169 @@ time_now old setup history rows time weight attempts live is b = ap (λ (x : Boo
 -- so is what the program made of it
 pub called_is : (old : BookState) (setup : Setup) (history : List Entry) (rows : List Row) (time weight : ℕ) (attempts : List flights.Attempt) (live place caller : ℕ) (raw : Raw) (made : Called)
     → record { setup = setup; history = history } ≡ old → IsBook setup history rows time weight attempts live → place ≡ length history + 1
-    → IsCalled time place caller (call_effect rows time place caller (called_at setup.key rows time place raw)) made
-    → IsCalled (time_of old.setup old.history) (length old.history + 1) caller (effect_to old.setup old.history (call_entry caller raw)) made
+    → IsCalled time (call_effect None rows time place caller (called_at setup.key rows time place raw)) made
+    → IsCalled (time_of old.setup old.history) (effect_to old.setup old.history (call_entry caller raw)) made
 called_is old setup history rows time weight attempts live place caller raw made is b at comes =
-    let here : place ≡ length old.history + 1 = at ∙ ap (λ (x : BookState). length x.history + 1) is in
     let timed : time ≡ time_of old.setup old.history = sym (time_now old setup history rows time weight attempts live is b) in
-    let same : call_effect rows time place caller (called_at setup.key rows time place raw) ≡ effect_to old.setup old.history (call_entry caller raw) =
-    sym (call_is old setup history rows time weight attempts live place caller raw (call_effect rows time place caller (called_at setup.key rows time place raw)) is b at refl) in
-    subst (λ (p : ℕ × (ℕ × Effect)). IsCalled p.0 p.1.0 caller p.1.1 made) (λ i. (timed i, (here i, same i))) comes
+    let same : call_effect None rows time place caller (called_at setup.key rows time place raw) ≡ effect_to old.setup old.history (call_entry caller raw) =
+    sym (call_is old setup history rows time weight attempts live place caller raw (call_effect None rows time place caller (called_at setup.key rows time place raw)) is b at refl) in
+    subst (λ (p : ℕ × Effect). IsCalled p.0 p.1 made) (λ i. (timed i, same i)) comes
 
 -- what a book keeps after a call that makes these rows and this step, and leaves this time
-pub call_book : (old : BookState) (setup : Setup) (history : List Entry) (rows : List Row) (time weight : ℕ) (attempts : List flights.Attempt) (live caller : ℕ) (raw : Raw)
+call_book : (old : BookState) (setup : Setup) (history : List Entry) (rows : List Row) (time weight : ℕ) (attempts : List flights.Attempt) (live caller : ℕ) (raw : Raw)
     (new : List Row) (step : Option Step) (now live' : ℕ)
     → record { setup = setup; history = history } ≡ old → IsBook setup history rows time weight attempts live → caller < 2 ^ 62
     → is_full old.setup old.history (deed.Call raw) ≡ false → (effect_to old.setup old.history (call_entry caller raw)).rows ≡ new
-    → (effect_to old.setup old.history (call_entry caller raw)).step ≡ step → (effect_to old.setup old.history (call_entry caller raw)).now ≡ now
-    → live' ≡ length (live_of (after_step attempts step))
+    → step_of (effect_to old.setup old.history (call_entry caller raw)).doing ≡ step → (effect_to old.setup old.history (call_entry caller raw)).now ≡ now
+    → ((does : Doing) → step_of does ≡ step → (runs_begun does + live ≡ live' + runs_ended does))
     → IsBook setup (history ++ call_entry caller raw ∷ []) (rows ++ new) now ((weight + raw_weight raw) + rows_weight new) (after_step attempts step) live'
 call_book old setup history rows time weight attempts live caller raw new step now live' is b below room made stepped timed counted =
-    let here : BookState = record { setup = setup; history = history } in
     let room_here : is_full setup history (deed.Call raw) ≡ false = subst (λ (x : BookState). is_full x.setup x.history (deed.Call raw) ≡ false) (sym is) room in
     let made_here : (effect_to setup history (call_entry caller raw)).rows ≡ new =
     subst (λ (x : BookState). (effect_to x.setup x.history (call_entry caller raw)).rows ≡ new) (sym is) made in
-    let step_here : (effect_to setup history (call_entry caller raw)).step ≡ step =
-    subst (λ (x : BookState). (effect_to x.setup x.history (call_entry caller raw)).step ≡ step) (sym is) stepped in
+    let step_here : step_of (effect_to setup history (call_entry caller raw)).doing ≡ step =
+    subst (λ (x : BookState). step_of (effect_to x.setup x.history (call_entry caller raw)).doing ≡ step) (sym is) stepped in
     let now_here : (effect_to setup history (call_entry caller raw)).now ≡ now =
     subst (λ (x : BookState). (effect_to x.setup x.history (call_entry caller raw)).now ≡ now) (sym is) timed in
-    book_more setup history rows time weight attempts live (call_entry caller raw) new step now live' b
-    (may_come setup history caller (deed.Call raw) below tt tt room_here) made_here step_here now_here counted
+    let does : Doing = (effect_to setup history (call_entry caller raw)).doing in
+    let comes = comes_of setup history rows time weight attempts live (call_entry caller raw) b tt in
+    let stands = stands_of setup history rows time weight attempts live b in
+    let law = runs_are_counted (doings_of setup history) does (comes.may, stands.lawful) in
+    let here = counted does step_here in
+    let live_is = b.live_is in
+    subst (λ (s : Option Step). IsBook setup (history ++ call_entry caller raw ∷ []) (rows ++ new) now ((weight + raw_weight raw) + rows_weight new) (after_step attempts s) live') step_here
+    (book_more setup history rows time weight attempts live (call_entry caller raw) new does now live' b
+    (may_come setup history caller (deed.Call raw) below tt tt room_here) made_here refl now_here (omega (arith, law, here, live_is)))
+
+-- after a call that is answered at once
+pub enter_book : (old : BookState) (setup : Setup) (history : List Entry) (rows : List Row) (time weight : ℕ) (attempts : List flights.Attempt) (live caller : ℕ) (raw : Raw)
+    (new : List Row) (now : ℕ)
+    → record { setup = setup; history = history } ≡ old → IsBook setup history rows time weight attempts live → caller < 2 ^ 62
+    → is_full old.setup old.history (deed.Call raw) ≡ false → (effect_to old.setup old.history (call_entry caller raw)).rows ≡ new
+    → step_of (effect_to old.setup old.history (call_entry caller raw)).doing ≡ None → (effect_to old.setup old.history (call_entry caller raw)).now ≡ now
+    → IsBook setup (history ++ call_entry caller raw ∷ []) (rows ++ new) now ((weight + raw_weight raw) + rows_weight new) attempts live
+enter_book old setup history rows time weight attempts live caller raw new now is b below room made stepped timed =
+    call_book old setup history rows time weight attempts live caller raw new None now live is b below room made stepped timed
+    (λ does step. let quiet = quiet_runs does step in omega (arith, quiet.0, quiet.1))
 
 -- a call sets the time of a book no earlier
 pub call_time : (old : BookState) (setup : Setup) (history : List Entry) (rows : List Row) (time weight : ℕ) (attempts : List flights.Attempt) (live caller : ℕ) (raw : Raw) (now : ℕ)
     → record { setup = setup; history = history } ≡ old → IsBook setup history rows time weight attempts live
     → (effect_to old.setup old.history (call_entry caller raw)).now ≡ now → time ≤ now
 call_time old setup history rows time weight attempts live caller raw now is b timed =
-    let place : ℕ = length history + 1 in
-    let same : effect_of setup rows time attempts place caller (deed.Call raw) ≡ effect_to setup history (call_entry caller raw) =
-    effect_is setup history rows time weight attempts live place (call_entry caller raw) b refl in
     let here : (effect_to setup history (call_entry caller raw)).now ≡ now =
     subst (λ (x : BookState). (effect_to x.setup x.history (call_entry caller raw)).now ≡ now) (sym is) timed in
-    subst (λ n. time ≤ n) (ap (λ (effect : Effect). effect.now) same ∙ here) (effect_later setup rows time attempts place caller (deed.Call raw))
-
--- the step of a call may be made
-call_next : (old : BookState) (setup : Setup) (history : List Entry) (rows : List Row) (time weight : ℕ) (attempts : List flights.Attempt) (live caller : ℕ) (raw : Raw) (flight : Flight)
-    → record { setup = setup; history = history } ≡ old → IsBook setup history rows time weight attempts live
-    → (effect_to old.setup old.history (call_entry caller raw)).step ≡ Some (Begins flight) → length rows < flight.order.reference
-call_next old setup history rows time weight attempts live caller raw flight is b stepped =
-    let kept = kept_of setup history rows time weight attempts live b in
-    let place : ℕ = length history + 1 in
-    let orderly = effect_orderly setup rows time (length history) caller attempts (deed.Call raw) kept in
-    let same : effect_of setup rows time attempts place caller (deed.Call raw) ≡ effect_to setup history (call_entry caller raw) =
-    effect_is setup history rows time weight attempts live place (call_entry caller raw) b refl in
-    let step : (effect_to setup history (call_entry caller raw)).step ≡ Some (Begins flight) =
-    subst (λ (x : BookState). (effect_to x.setup x.history (call_entry caller raw)).step ≡ Some (Begins flight)) (sym is) stepped in
-    let next : IsNext (length history) (length rows) (length rows + length (effect_of setup rows time attempts place caller (deed.Call raw)).rows) attempts (Some (Begins flight)) =
-    subst (IsNext (length history) (length rows) (length rows + length (effect_of setup rows time attempts place caller (deed.Call raw)).rows) attempts)
-    (ap (λ (effect : Effect). effect.step) same ∙ step) orderly.next in
-    next.1
-
--- the attempt that a call begins is a new one
-pub begin_new : (old : BookState) (setup : Setup) (history : List Entry) (rows : List Row) (time weight : ℕ) (attempts : List flights.Attempt) (live caller : ℕ) (raw : Raw) (flight : Flight)
-    → record { setup = setup; history = history } ≡ old → IsBook setup history rows time weight attempts live
-    → (effect_to old.setup old.history (call_entry caller raw)).step ≡ Some (Begins flight) → entry_of attempts flight.order.reference ≡ None
-begin_new old setup history rows time weight attempts live caller raw flight is b stepped =
-    none_above (length history) (length rows) flight.order.reference attempts (kept_of setup history rows time weight attempts live b).below
-    (call_next old setup history rows time weight attempts live caller raw flight is b stepped)
+    let later = (comes_of setup history rows time weight attempts live (call_entry caller raw) b tt).later in
+    let time_is = b.time_is in omega (arith, here, later, time_is)
 
 -- what a book keeps after a call that begins a run
 pub begin_book : (old : BookState) (setup : Setup) (history : List Entry) (rows : List Row) (time weight : ℕ) (attempts : List flights.Attempt) (live caller : ℕ) (raw : Raw)
     (new : List Row) (flight : Flight)
     → record { setup = setup; history = history } ≡ old → IsBook setup history rows time weight attempts live → caller < 2 ^ 62
     → is_full old.setup old.history (deed.Call raw) ≡ false → (effect_to old.setup old.history (call_entry caller raw)).rows ≡ new
-    → (effect_to old.setup old.history (call_entry caller raw)).step ≡ Some (Begins flight) → (effect_to old.setup old.history (call_entry caller raw)).now ≡ time
+    → step_of (effect_to old.setup old.history (call_entry caller raw)).doing ≡ Some (Begins flight) → (effect_to old.setup old.history (call_entry caller raw)).now ≡ time
     → IsBook setup (history ++ call_entry caller raw ∷ []) (rows ++ new) time ((weight + raw_weight raw) + rows_weight new) (after attempts (Begins flight)) (live + 1)
 begin_book old setup history rows time weight attempts live caller raw new flight is b below room made stepped timed =
-    let fresh = begin_new old setup history rows time weight attempts live caller raw flight is b stepped in
     call_book old setup history rows time weight attempts live caller raw new (Some (Begins flight)) time (live + 1) is b below room made stepped timed
-    (ap (λ n. n + 1) b.live_is ∙ sym (live_begun attempts flight fresh))
+    (λ does step. let begins = begins_run [] does flight step in omega (arith, begins.0.0, begins.0.1))
+
+-- ---- the runs of callers
+
+-- a caller's live run is found as its own
+own_found : (past : List Doing) (flight : Flight) → live_run past flight.run ≡ Flies flight → own_run past flight.caller flight.run ≡ Some flight
+own_found past flight live =
+    ap (if_own flight.caller) live ∙ cond-true (flight.caller == flight.caller) (Some flight) None (eq-eqb flight.caller flight.caller refl)
 
 -- the run that has begun is live
-pub begun_held : (old new : BookState) (setup : Setup) (history : List Entry) (rows rows' : List Row) (time weight weight' : ℕ) (attempts : List flights.Attempt) (live live' : ℕ) (entry : Entry) (flight : Flight)
-    → record { setup = setup; history = history } ≡ old → IsBook setup history rows time weight attempts live
-    → IsBook setup (history ++ entry ∷ []) rows' time weight' (after attempts (Begins flight)) live'
-    → new ≡ record { setup = setup; history = history ++ entry ∷ [] } → flight.run ≡ length old.history + 1
-    → Holds new.setup new.history flight.caller flight
+pub begun_held : (old new : BookState) (setup : Setup) (history : List Entry) (entry : Entry) (flight : Flight)
+    → record { setup = setup; history = history } ≡ old → new ≡ record { setup = setup; history = history ++ entry ∷ [] }
+    → step_of (effect_to old.setup old.history entry).doing ≡ Some (Begins flight) → Holds new.setup new.history flight.caller flight
 unfolding Holds
-begun_held old new setup history rows rows' time weight weight' attempts live live' entry flight is b grown now_is run =
-    let kept = kept_of setup history rows time weight attempts live b in
-    let run_here : flight.run ≡ length history + 1 = run ∙ ap (λ (x : BookState). length x.history + 1) (sym is) in
-    let found : run_in (after attempts (Begins flight)) flight.caller flight.run ≡ Some flight = found_begun (length history) (length rows) attempts flight kept run_here in
-    let here : run_in (attempts_of setup (history ++ entry ∷ [])) flight.caller flight.run ≡ Some flight =
-    subst (λ runs. run_in runs flight.caller flight.run ≡ Some flight) grown.attempts_are found in
-    subst (λ (x : BookState). run_in (attempts_of x.setup x.history) flight.caller flight.run ≡ Some flight) (sym now_is) here
+begun_held old new setup history entry flight is now_is stepped =
+    let step_here : step_of (effect_to setup history entry).doing ≡ Some (Begins flight) =
+    subst (λ (x : BookState). step_of (effect_to x.setup x.history entry).doing ≡ Some (Begins flight)) (sym is) stepped in
+    let live : live_run ((effect_to setup history entry).doing ∷ doings_of setup history) flight.run ≡ Flies flight =
+    (begins_run (doings_of setup history) (effect_to setup history entry).doing flight step_here).1 in
+    let here : own_run (doings_of setup (history ++ entry ∷ [])) flight.caller flight.run ≡ Some flight =
+    ap (λ past. own_run past flight.caller flight.run) (doings_grow setup history entry)
+    ∙ own_found ((effect_to setup history entry).doing ∷ doings_of setup history) flight live in
+    subst (λ (x : BookState). own_run (doings_of x.setup x.history) flight.caller flight.run ≡ Some flight) (sym now_is) here
 
 -- ---- the ends of runs
 
--- the run of a ticket is among the attempts that a book keeps
+-- the run of a ticket is a live one
+held_here : (old : BookState) (setup : Setup) (history : List Entry) (caller : ℕ) (ticket : Flight) → record { setup = setup; history = history } ≡ old
+    → Holds old.setup old.history caller ticket → own_run (doings_of setup history) caller ticket.run ≡ Some ticket
+unfolding Holds
+held_here old setup history caller ticket is holds =
+    subst (λ (x : BookState). own_run (doings_of x.setup x.history) caller ticket.run ≡ Some ticket) (sym is) holds
+
+-- and is among the attempts that a book keeps
 held_run : (old : BookState) (setup : Setup) (history : List Entry) (rows : List Row) (time weight : ℕ) (attempts : List flights.Attempt) (live caller : ℕ) (ticket : Flight)
     → record { setup = setup; history = history } ≡ old → IsBook setup history rows time weight attempts live → Holds old.setup old.history caller ticket
-    → run_in attempts caller ticket.run ≡ Some ticket
-unfolding Holds
+    → run_in attempts ticket.caller ticket.run ≡ Some ticket
 held_run old setup history rows time weight attempts live caller ticket is b holds =
-    let here : run_in (attempts_of setup history) caller ticket.run ≡ Some ticket =
-    subst (λ (x : BookState). run_in (attempts_of x.setup x.history) caller ticket.run ≡ Some ticket) (sym is) holds in
-    subst (λ runs. run_in runs caller ticket.run ≡ Some ticket) (sym b.attempts_are) here
+    let stands = stands_of setup history rows time weight attempts live b in
+    let own = own_is (doings_of setup history) caller ticket.run ticket stands.lawful (held_here old setup history caller ticket is holds) in
+    ap (λ kept. run_in kept ticket.caller ticket.run) b.attempts_are ∙ (runs_are_found (doings_of setup history) stands.lawful).finds ticket.run ticket own.0
 
 -- so one run at least is live
 some_live : (test : Flight → Bool) (flights : List Flight) (flight : Flight) → find test flights ≡ Some flight → 0 < length flights
-some_live test [] flight h = let no : None ≡ Some flight = h in absurd (cc)
+some_live test [] flight h = let no_run : None ≡ Some flight = h in absurd (cc)
 some_live test (first ∷ flights) flight h = omega arith
 
 pub held_live : (old : BookState) (setup : Setup) (history : List Entry) (rows : List Row) (time weight : ℕ) (attempts : List flights.Attempt) (live caller : ℕ) (ticket : Flight)
     → record { setup = setup; history = history } ≡ old → IsBook setup history rows time weight attempts live → Holds old.setup old.history caller ticket
     → 0 < live
 held_live old setup history rows time weight attempts live caller ticket is b holds =
-    let some = some_live (is_run caller ticket.run) (live_of attempts) ticket (held_run old setup history rows time weight attempts live caller ticket is b holds) in
-    let counted = b.live_is in omega (arith, some, counted)
+    let stands = stands_of setup history rows time weight attempts live b in
+    let some = some_live (is_run ticket.caller ticket.run) (live_in attempts) ticket (held_run old setup history rows time weight attempts live caller ticket is b holds) in
+    let kept = ap length ((attempts_are_unsettled (doings_of setup history) stands.lawful).live) in
+    let same = ap (λ kept. length (live_in kept)) b.attempts_are in
+    let counted = b.live_is in omega (arith, some, kept, same, counted)
 
--- and its attempt is found by its reference
+-- an attempt is live by the run that is found
+live_found : (attempts : List Attempt) (flight : Flight) → run_in attempts flight.caller flight.run ≡ Some flight → has_live flight attempts ≡ true
+live_found [] flight h = let no_run : None ≡ Some flight = h in absurd (cc)
+live_found (Parked order ∷ attempts) flight h = live_found attempts flight h
+live_found (Live first ∷ attempts) flight h = at (is_run flight.caller flight.run first) refl (live_found attempts flight)
+  where
+    at : (test : Bool) → is_run flight.caller flight.run first ≡ test → (run_in attempts flight.caller flight.run ≡ Some flight → has_live flight attempts ≡ true)
+        → has_live flight (Live first ∷ attempts) ≡ true
+    at true e more = grind (arith, nat_tests)
+    at false e more =
+        let rest : has_live flight attempts ≡ true = more (rw e at h) in
+        ap (λ t. is_live_as flight (Live first) || t) rest ∙ or_true (is_live_as flight (Live first))
+      where
+        or_true : (a : Bool) → (a || true) ≡ true
+        or_true true = refl
+        or_true false = refl
+
 pub held_entry : (old : BookState) (setup : Setup) (history : List Entry) (rows : List Row) (time weight : ℕ) (attempts : List flights.Attempt) (live caller : ℕ) (ticket : Flight)
     → record { setup = setup; history = history } ≡ old → IsBook setup history rows time weight attempts live → Holds old.setup old.history caller ticket
-    → entry_of attempts ticket.order.reference ≡ Some (Live ticket)
+    → has_live ticket attempts ≡ true
 held_entry old setup history rows time weight attempts live caller ticket is b holds =
-    entry_of_run caller ticket.run attempts ticket (kept_of setup history rows time weight attempts live b).one_each
-    (held_run old setup history rows time weight attempts live caller ticket is b holds)
+    live_found attempts ticket (held_run old setup history rows time weight attempts live caller ticket is b holds)
 
 -- what a ruling comes to over what a book keeps
 pub finish_is : (old : BookState) (setup : Setup) (history : List Entry) (rows : List Row) (time weight : ℕ) (attempts : List flights.Attempt) (live place caller : ℕ) (ticket : Flight) (ruling : Ruling)
     → record { setup = setup; history = history } ≡ old → IsBook setup history rows time weight attempts live → Holds old.setup old.history caller ticket
     → place ≡ length history + 1
-    → effect_to old.setup old.history (finish_entry caller ticket ruling) ≡ finish_effect rows time place ruling (Some ticket)
+    → effect_to old.setup old.history (finish_entry caller ticket ruling) ≡ finish_effect None rows time place ruling (Some ticket)
 finish_is old setup history rows time weight attempts live place caller ticket ruling is b holds at =
-    let run = held_run old setup history rows time weight attempts live caller ticket is b holds in
-    subst (λ (x : BookState). effect_to x.setup x.history (finish_entry caller ticket ruling) ≡ finish_effect rows time place ruling (Some ticket)) is
+    subst (λ (x : BookState). effect_to x.setup x.history (finish_entry caller ticket ruling) ≡ finish_effect None rows time place ruling (Some ticket)) is
     (sym (effect_is setup history rows time weight attempts live place (finish_entry caller ticket ruling) b at)
-    ∙ ap (finish_effect rows time place ruling) run)
+    ∙ ap (finish_effect None rows time place ruling) (held_here old setup history caller ticket is holds))
 
 -- what a park comes to
 pub park_is : (old : BookState) (setup : Setup) (history : List Entry) (rows : List Row) (time weight : ℕ) (attempts : List flights.Attempt) (live place caller : ℕ) (ticket : Flight) (why : Why)
     → record { setup = setup; history = history } ≡ old → IsBook setup history rows time weight attempts live → Holds old.setup old.history caller ticket
     → place ≡ length history + 1
-    → effect_to old.setup old.history (park_entry caller ticket why) ≡ park_effect rows time place why (Some ticket)
+    → effect_to old.setup old.history (park_entry caller ticket why) ≡ park_effect None rows time place why (Some ticket)
 park_is old setup history rows time weight attempts live place caller ticket why is b holds at =
-    let run = held_run old setup history rows time weight attempts live caller ticket is b holds in
-    subst (λ (x : BookState). effect_to x.setup x.history (park_entry caller ticket why) ≡ park_effect rows time place why (Some ticket)) is
+    subst (λ (x : BookState). effect_to x.setup x.history (park_entry caller ticket why) ≡ park_effect None rows time place why (Some ticket)) is
     (sym (effect_is setup history rows time weight attempts live place (park_entry caller ticket why) b at)
-    ∙ ap (park_effect rows time place why) run)
+    ∙ ap (park_effect None rows time place why) (held_here old setup history caller ticket is holds))
 
 -- a ruling and a park are never full
 pub finish_room : (setup : Setup) (history : List Entry) (run : ℕ) (ruling : Ruling) → is_full setup history (deed.Finish run ruling) ≡ false
@@ -212,58 +279,79 @@ pub park_room : (setup : Setup) (history : List Entry) (run : ℕ) (why : Why) �
 unfolding is_full
 park_room setup history run why = refl
 
--- what a book keeps after a ruling that makes these rows
+-- what a book keeps after the end of a run, which makes these rows and this step
+end_book : (setup : Setup) (history : List Entry) (rows : List Row) (time weight : ℕ) (attempts : List flights.Attempt) (live live' : ℕ) (entry : Entry) (new : List Row) (does : Doing) (step : Step) (now : ℕ)
+    → IsBook setup history rows time weight attempts live → IsAllowed setup (past_of setup history) entry → (effect_to setup history entry).rows ≡ new
+    → (effect_to setup history entry).doing ≡ does → (effect_to setup history entry).now ≡ now → step_of does ≡ Some step
+    → (runs_ended does ≡ 1) × (runs_begun does ≡ 0) → live' + 1 ≡ live
+    → IsBook setup (history ++ entry ∷ []) (rows ++ new) now ((weight + deed_weight entry.deed) + rows_weight new) (after attempts step) live'
+end_book setup history rows time weight attempts live live' entry new does step now b allowed made done timed stepped ends fewer =
+    let comes = comes_of setup history rows time weight attempts live entry b allowed.clock in
+    let stands = stands_of setup history rows time weight attempts live b in
+    let law = runs_are_counted (doings_of setup history) does (subst (λ (d : Doing). MayDo (doings_of setup history) d) done comes.may, stands.lawful) in
+    let live_is = b.live_is in
+    subst (λ (s : Option Step). IsBook setup (history ++ entry ∷ []) (rows ++ new) now ((weight + deed_weight entry.deed) + rows_weight new) (after_step attempts s) live') stepped
+    (book_more setup history rows time weight attempts live entry new does now live' b allowed made done timed (omega (arith, law, live_is, fewer, ends.0, ends.1)))
+
+-- after a ruling that makes these rows
 pub finish_book : (old : BookState) (setup : Setup) (history : List Entry) (rows : List Row) (time weight : ℕ) (attempts : List flights.Attempt) (live live' place caller : ℕ) (ticket : Flight) (ruling : Ruling) (new : List Row)
     → record { setup = setup; history = history } ≡ old → IsBook setup history rows time weight attempts live → Holds old.setup old.history caller ticket
-    → caller < 2 ^ 62 → place ≡ length history + 1 → (finish_effect rows time place ruling (Some ticket)).rows ≡ new → live' + 1 ≡ live
+    → caller < 2 ^ 62 → place ≡ length history + 1 → (finish_effect None rows time place ruling (Some ticket)).rows ≡ new → live' + 1 ≡ live
     → IsBook setup (history ++ finish_entry caller ticket ruling ∷ []) (rows ++ new) time ((weight + 0) + rows_weight new) (after attempts (Settles ticket)) live'
 finish_book old setup history rows time weight attempts live live' place caller ticket ruling new is b holds below at made fewer =
     let here : BookState = record { setup = setup; history = history } in
-    let run = held_run old setup history rows time weight attempts live caller ticket is b holds in
-    let own : run_in (attempts_of setup history) caller ticket.run ≡ Some ticket = subst (λ runs. run_in runs caller ticket.run ≡ Some ticket) b.attempts_are run in
+    let own = held_here old setup history caller ticket is holds in
     let holds_here : Holds setup history caller ticket = subst (λ (x : BookState). Holds x.setup x.history caller ticket) (sym is) holds in
-    let comes : effect_to setup history (finish_entry caller ticket ruling) ≡ finish_effect rows time place ruling (Some ticket) =
+    let comes : effect_to setup history (finish_entry caller ticket ruling) ≡ finish_effect None rows time place ruling (Some ticket) =
     finish_is here setup history rows time weight attempts live place caller ticket ruling refl b holds_here at in
-    let settled = live_settled attempts ticket (kept_of setup history rows time weight attempts live b).one_each
-    (held_entry old setup history rows time weight attempts live caller ticket is b holds) in
-    let counted = b.live_is in
-    book_more setup history rows time weight attempts live (finish_entry caller ticket ruling) new (Some (Settles ticket)) time live' b
+    let stands = stands_of setup history rows time weight attempts live b in
+    let may = own_may_end (view_of setup history) (doings_of setup history) caller ticket.run ticket stands own in
+    let capture = may.processing.intent.capture_method in
+    let touch_is : outcome_touch (ruled_outcome rows time place ticket.order.reference ruling) ≡ touch.Settles may.intent ticket.order capture ruling =
+    ap (λ (p : List Row × ℕ). outcome_touch (ruled_outcome p.0 p.1 place ticket.order.reference ruling)) (λ i. (b.rows_are i, b.time_is i))
+    ∙ done_touch (view_of setup history) most_rows _ may.intent _ (ruled_done (view_of setup history) (doings_of setup history) place ticket ruling stands may) in
+    end_book setup history rows time weight attempts live live' (finish_entry caller ticket ruling) new (doing.Settles may.intent ticket capture ruling) (Settles ticket) time b
     (may_come setup history caller (deed.Finish ticket.run ruling) below tt (ticket, own) (finish_room setup history ticket.run ruling))
-    (ap (λ (effect : Effect). effect.rows) comes ∙ made) (ap (λ (effect : Effect). effect.step) comes) (ap (λ (effect : Effect). effect.now) comes) (omega (arith, settled, counted, fewer))
+    (ap (λ (effect : Effect). effect.rows) comes ∙ made)
+    (ap (λ (effect : Effect). effect.doing) comes ∙ ap (doing_of ticket.caller ticket.run) touch_is)
+    (ap (λ (effect : Effect). effect.now) comes) refl (refl, refl) fewer
 
 -- the row of a park has no texts, and is one at most
-by_weight : (count now place : ℕ) (row : Row) (attempt : Option Attempt) → let made = (parked_by row (empty_batch count now place) attempt).rows in
+by_weight : (count now place : ℕ) (row : Row) (attempt : Option _) → let made = outcome_rows None (parked_by row (empty_batch count now place) attempt) in
     (rows_weight made ≡ 256 * length made) × (length made ≤ 1)
 by_weight count now place row None = (refl, omega arith)
 by_weight count now place row (Some attempt) = (omega arith, omega arith)
 
-from_weight : (count now place : ℕ) (found : Option Row) → let made = (parked_from (empty_batch count now place) found).rows in
+from_weight : (count now place : ℕ) (found : Option Row) → let made = outcome_rows None (parked_from (empty_batch count now place) found) in
     (rows_weight made ≡ 256 * length made) × (length made ≤ 1)
 from_weight count now place None = (refl, omega arith)
 from_weight count now place (Some row) = by_weight count now place row (attempt_in row.item)
 
-pub parked_weight : (rows : List Row) (now place attempt : ℕ) → let made = parked_rows rows now place attempt in
+pub parked_weight : (rows : List Row) (now place attempt : ℕ) → let made = outcome_rows None (parked_outcome rows now place attempt) in
     (rows_weight made ≡ 256 * length made) × (length made ≤ 1)
 parked_weight rows now place attempt = from_weight (length rows) now place (latest_of attempt rows)
 
--- what a book keeps after a park that makes these rows
+-- after a park that makes these rows
 pub park_book : (old : BookState) (setup : Setup) (history : List Entry) (rows : List Row) (time weight : ℕ) (attempts : List flights.Attempt) (live live' place caller : ℕ) (ticket : Flight) (why : Why) (new : List Row)
     → record { setup = setup; history = history } ≡ old → IsBook setup history rows time weight attempts live → Holds old.setup old.history caller ticket
-    → caller < 2 ^ 62 → place ≡ length history + 1 → (park_effect rows time place why (Some ticket)).rows ≡ new → live' + 1 ≡ live
+    → caller < 2 ^ 62 → place ≡ length history + 1 → (park_effect None rows time place why (Some ticket)).rows ≡ new → live' + 1 ≡ live
     → IsBook setup (history ++ park_entry caller ticket why ∷ []) (rows ++ new) time ((weight + 0) + rows_weight new) (after attempts (Parks ticket)) live'
 park_book old setup history rows time weight attempts live live' place caller ticket why new is b holds below at made fewer =
     let here : BookState = record { setup = setup; history = history } in
-    let run = held_run old setup history rows time weight attempts live caller ticket is b holds in
-    let own : run_in (attempts_of setup history) caller ticket.run ≡ Some ticket = subst (λ runs. run_in runs caller ticket.run ≡ Some ticket) b.attempts_are run in
+    let own = held_here old setup history caller ticket is holds in
     let holds_here : Holds setup history caller ticket = subst (λ (x : BookState). Holds x.setup x.history caller ticket) (sym is) holds in
-    let comes : effect_to setup history (park_entry caller ticket why) ≡ park_effect rows time place why (Some ticket) =
+    let comes : effect_to setup history (park_entry caller ticket why) ≡ park_effect None rows time place why (Some ticket) =
     park_is here setup history rows time weight attempts live place caller ticket why refl b holds_here at in
-    let parked = live_parked attempts ticket (kept_of setup history rows time weight attempts live b).one_each
-    (held_entry old setup history rows time weight attempts live caller ticket is b holds) in
-    let counted = b.live_is in
-    book_more setup history rows time weight attempts live (park_entry caller ticket why) new (Some (Parks ticket)) time live' b
+    let stands = stands_of setup history rows time weight attempts live b in
+    let may = own_may_end (view_of setup history) (doings_of setup history) caller ticket.run ticket stands own in
+    let touch_is : outcome_touch (parked_outcome rows time place ticket.order.reference) ≡ touch.Parks may.intent ticket.order =
+    ap (λ (p : List Row × ℕ). outcome_touch (parked_outcome p.0 p.1 place ticket.order.reference)) (λ i. (b.rows_are i, b.time_is i))
+    ∙ done_touch (view_of setup history) most_rows _ 0 _ (parked_done (view_of setup history) place may.intent ticket.order stands.ready may.attempt) in
+    end_book setup history rows time weight attempts live live' (park_entry caller ticket why) new (doing.Parks may.intent ticket) (Parks ticket) time b
     (may_come setup history caller (deed.Park ticket.run why) below tt (ticket, own) (park_room setup history ticket.run why))
-    (ap (λ (effect : Effect). effect.rows) comes ∙ made) (ap (λ (effect : Effect). effect.step) comes) (ap (λ (effect : Effect). effect.now) comes) (omega (arith, parked, counted, fewer))
+    (ap (λ (effect : Effect). effect.rows) comes ∙ made)
+    (ap (λ (effect : Effect). effect.doing) comes ∙ ap (doing_of ticket.caller ticket.run) touch_is)
+    (ap (λ (effect : Effect). effect.now) comes) refl (refl, refl) fewer
 
 -- ---- the clock
 
@@ -290,6 +378,8 @@ tick_book old setup history rows time weight attempts live caller moment is b be
     let room_here : is_full setup history (deed.Tick moment) ≡ false = subst (λ (x : BookState). is_full x.setup x.history (deed.Tick moment) ≡ false) (sym is) room in
     let comes : effect_to setup history (tick_entry caller moment) ≡ tick_effect time moment =
     tick_is here setup history rows time weight attempts live caller moment refl b in
-    book_more setup history rows time weight attempts live (tick_entry caller moment) [] None (max time moment) live b
+    let law = runs_are_counted (doings_of setup history) Leaves (tt, (stands_of setup history rows time weight attempts live b).lawful) in
+    let live_is = b.live_is in
+    book_more setup history rows time weight attempts live (tick_entry caller moment) [] Leaves (max time moment) live b
     (may_come setup history caller (deed.Tick moment) below clock tt room_here)
-    (ap (λ (effect : Effect). effect.rows) comes) (ap (λ (effect : Effect). effect.step) comes) (ap (λ (effect : Effect). effect.now) comes) b.live_is
+    (ap (λ (effect : Effect). effect.rows) comes) (ap (λ (effect : Effect). effect.doing) comes) (ap (λ (effect : Effect). effect.now) comes) (omega (arith, law, live_is))

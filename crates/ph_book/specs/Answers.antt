@@ -1,5 +1,5 @@
 -- Answers of a book.
-use Rattle.std.specs.Prelude.{◌≡◌, ◌≢◌, ℕ, List, [], ◌∷◌, IsTrue}
+use Rattle.std.specs.Prelude.{◌≡◌, ◌≢◌, ℕ, ◌==◌, ◌||◌, Bool, true, List, [], ◌∷◌, IsTrue}
 use Rattle.ph_http.specs.declared.message.Reply.{Reply}
 use Rattle.ph_http.specs.Replies.{is_status}
 use Rattle.ph_book.specs.declared.acts.Act.{Act}
@@ -32,21 +32,25 @@ HasStatus (answer.Reply reply) = IsTrue (is_status reply.status)
 HasStatus (answer.Wait ticket) = Unit {0}
 HasStatus answer.Done = Unit {0}
 
--- the answer is a reply
-abbrev pub IsReply : Answer → Type 0
-IsReply (answer.Reply reply) = Unit {0}
-IsReply (answer.Wait ticket) = ⊥
-IsReply answer.Done = ⊥
-
 -- the answer is a ticket, or a reply, and no reply to a run that was given up: these have the status 500, but for want of memory
 abbrev pub IsNoPark : Answer → Type 0
 IsNoPark (answer.Reply reply) = reply.status ≢ 500
 IsNoPark (answer.Wait ticket) = Unit {0}
 IsNoPark answer.Done = ⊥
 
--- what the answers to an act are: a call is answered by a reply or waits, a ruling by a reply, a park by the reply of its reason, and a moment by none
+-- a status with which rulings are answered: the payment intent is shown, or the decline
+abbrev pub is_ruled : ℕ → Bool
+is_ruled status = status == 200 || status == 402
+
+-- the answer is a reply to a ruling
+abbrev pub IsRuled : Answer → Type 0
+IsRuled (answer.Reply reply) = is_ruled reply.status ≡ true
+IsRuled (answer.Wait ticket) = ⊥
+IsRuled answer.Done = ⊥
+
+-- what the answers to an act are: a call is answered by a reply or waits, a ruling by the payment intent or the decline, a park by the reply of its reason, and a moment by none
 abbrev pub IsAnswerTo : Act → Answer → Type 0
 IsAnswerTo (act.Call raw) given = IsNoPark given
-IsAnswerTo (act.Finish ticket ruling) given = IsReply given × IsNoPark given
+IsAnswerTo (act.Finish ticket ruling) given = IsRuled given
 IsAnswerTo (act.Park ticket why) given = given ≡ answer.Reply (park_reply why)
 IsAnswerTo (act.Tick moment) given = given ≡ answer.Done

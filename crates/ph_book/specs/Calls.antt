@@ -17,6 +17,7 @@ use Rattle.ph_calls.specs.declared.call.Call.{Call}
 use Rattle.ph_calls.specs.declared.call.Call.TheVariants as call
 use Rattle.ph_calls.specs.Reading.{reading_of}
 use Rattle.ph_facts.specs.Outcomes.{Outcome, Refuses, Adds}
+use Rattle.ph_facts.specs.Touches.{Untouched}
 use Rattle.ph_views.specs.Balances.{balance_doc}
 use Rattle.ph_items.specs.Accounts.{platform}
 use Rattle.ph_views.specs.Values.{printed_id}
@@ -44,7 +45,7 @@ is_platform (Some name) = bytes_eq name (printed_id kind.Account platform)
 -- a retrieve: it shows the version found, and adds nothing
 abbrev pub found_outcome : Option Row → BatchState → Outcome
 found_outcome None batch = Refuses (error_of (NoSuchObject (codes "id")))
-found_outcome (Some row) batch = Adds row.object batch
+found_outcome (Some row) batch = Adds Untouched row.object batch
 
 -- the retrieve of the object of a kind that the path names
 abbrev pub retrieved : List Row → Kind → List ℕ → BatchState → Outcome
@@ -63,10 +64,12 @@ authenticated rows call batch Failed = fail_authentication_outcome rows platform
 -- an outcome, and the dispute of what it captures, where one is due
 abbrev pub and_opened : List Row → Outcome → Outcome
 and_opened rows (Refuses error) = Refuses error
-and_opened rows (Adds object batch) = Adds object (open_due_of rows object batch)
+and_opened rows (Adds touch object batch) = Adds touch object (open_due_of rows object batch)
 
--- what a call comes to: an outcome over the rows, a document that is shown, or a moment to which the clock is set
+-- what a request comes to: it is rejected, since it is no call that may be carried out; or its call has an outcome over the rows,
+-- shows a document, or sets the clock to a moment
 pub data Upshot : Type 0 where
+  Rejects : ApiError → Upshot
   Makes : Outcome → Upshot
   Shows : Doc → Upshot
   Sets : ℕ → Upshot
@@ -96,12 +99,12 @@ carried rows now (call.Authenticate c) batch = Makes (authenticated rows c batch
 
 -- what a request comes to that is read so: as it is refused, or as its call is carried out
 abbrev pub read_upshot : List Row → ℕ → Result Call ApiError → BatchState → Upshot
-read_upshot rows now (Err error) batch = Makes (Refuses error)
+read_upshot rows now (Err error) batch = Rejects error
 read_upshot rows now (Ok call) batch = carried rows now call batch
 
 -- what a request comes to, over these rows at this time, as the entry of a place, where this is the key of the setup
 unfoldable pub called_at : List ℕ → List Row → ℕ → ℕ → Raw → Upshot
 called_at key rows now place raw =
-    if not (is_key key raw.auth) then Makes (Refuses (error_of InvalidApiKey)) else
-    (if not (is_platform raw.account) then Makes (Refuses (error_of NoSuchAccount)) else
+    if not (is_key key raw.auth) then Rejects (error_of InvalidApiKey) else
+    (if not (is_platform raw.account) then Rejects (error_of NoSuchAccount) else
     read_upshot rows now (reading_of raw) (empty_batch (length rows) now place))

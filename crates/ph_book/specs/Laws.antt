@@ -1,5 +1,12 @@
 -- What holds of the rows of every legal history.
-use Rattle.std.specs.Prelude.{◌≡◌, ℕ, pos, ◌+ℤ◌, ◌≤ℤ◌, List, Some}
+use Rattle.std.specs.Prelude.{◌≡◌, ℕ, pos, ◌+ℤ◌, ◌≤ℤ◌, List, Some, true}
+use Rattle.std.specs.List.{list_all}
+use Rattle.ph_attempts.specs.declared.flights.Flight.{Flight}
+use Rattle.ph_doings.specs.Confirmations.{all_but_first, attempts_of_confirmation, begun_at}
+use Rattle.ph_doings.specs.Doings.{Doing}
+use Rattle.ph_doings.specs.Rows.{MayEnd}
+use Rattle.ph_doings.specs.Runs.{Flies, live_run}
+use Rattle.ph_doings.specs.Standings.{is_challenged, standing_of}
 use Rattle.ph_money.specs.declared.currencies.Currency.{Currency}
 use Rattle.ph_rows.specs.declared.rows.Row.{Row}
 use Rattle.ph_items.specs.declared.charges.Charge.{Charge}
@@ -60,3 +67,17 @@ abbrev pub HaveDifferentIds : List Row → Type 0
 HaveDifferentIds rows =
     (p q : ℕ) (first second : Row) → row_at p rows ≡ Some first → row_at q rows ≡ Some second
     → first.object ≡ first.place → second.object ≡ second.place → id_of first ≡ id_of second → p ≡ q
+
+-- different attempts have different references: the entries that began an attempt of one reference are one
+abbrev pub HaveDifferentReferences : List Doing → Type 0
+HaveDifferentReferences past = (place other reference : ℕ) → begun_at past place ≡ Some reference → begun_at past other ≡ Some reference
+    → place ≡ other
+
+-- of a confirmation's attempts all but the newest are settled with a challenge
+abbrev pub WereChallenged : List Doing → Type 0
+WereChallenged past = (confirmation : ℕ) → list_all (λ reference. is_challenged (standing_of past reference))
+    (all_but_first (attempts_of_confirmation past confirmation)) ≡ true
+
+-- the rows have the attempt of each live run, live under its order, and its payment intent, which is processing
+abbrev pub RunsAreShown : List Doing → List Row → Type 0
+RunsAreShown past rows = (flight : Flight) → live_run past flight.run ≡ Flies flight → MayEnd past rows flight

@@ -1,7 +1,8 @@
 -- What a history weighs, what has no room behind it, and which histories are legal.
 use Rattle.std.specs.Prelude.{◌≡◌, ℕ, ◌+◌, ◌^◌, ◌<◌, ◌≤◌, Bool, false, ◌||◌, nat_lt, List, [], ◌∷◌, length, Option, Some, None}
 use Rattle.std.specs.List.{sum_by}
-use Rattle.ph_attempts.specs.declared.flights.Attempt.{Attempt}
+use Rattle.ph_doings.specs.Doings.{Doing}
+use Rattle.ph_doings.specs.Runs.{live_runs}
 use Rattle.ph_items.specs.Clocks.{clock_limit}
 use Rattle.ph_rows.specs.Weights.{rows_weight}
 use Rattle.ph_http.specs.declared.message.Raw.{Raw}
@@ -10,8 +11,8 @@ use Rattle.ph_book.specs.declared.acts.Entry.{Entry}
 use Rattle.ph_book.specs.declared.acts.Deed.{Deed}
 use Rattle.ph_book.specs.declared.acts.Deed.TheVariants as deed
 use Rattle.ph_book.specs.Entries.{IsWithinClock}
-use Rattle.ph_book.specs.History.{Happening, rows_after, attempts_after, and_then, past_of}
-use Rattle.ph_book.specs.Runs.{IsLive, live_of}
+use Rattle.ph_book.specs.History.{Happening, rows_after, doings_after, and_then, past_of}
+use Rattle.ph_book.specs.Runs.{IsLive}
 
 -- the length of a text that may be missing
 abbrev pub length_if : Option (List ℕ) → ℕ
@@ -37,7 +38,7 @@ weight_after setup past = sum_by (λ h. deed_weight h.entry.deed) past + rows_we
 
 -- the places that are taken after what happened: each entry, and the end of each live run
 abbrev pub used_after : List Happening → ℕ
-used_after past = length past + length (live_of (attempts_after past))
+used_after past = length past + length (live_runs (doings_after past))
 
 -- a deed has no room where so many places are taken and so much weighs: a call takes two places, and its weight; a moment takes one; the end of a run has its place from the run's beginning
 abbrev pub is_full_at : Setup → ℕ → ℕ → Deed → Bool
@@ -56,17 +57,17 @@ unfoldable pub is_full : Setup → List Entry → Deed → Bool
 is_full setup history deed = is_full_after setup (past_of setup history) deed
 
 -- a deed ends a live run of its own caller, where it ends one
-abbrev pub EndsOwn : List Attempt → ℕ → Deed → Type 0
-EndsOwn attempts caller (deed.Call raw) = Unit {0}
-EndsOwn attempts caller (deed.Finish run ruling) = IsLive attempts caller run
-EndsOwn attempts caller (deed.Park run why) = IsLive attempts caller run
-EndsOwn attempts caller (deed.Tick moment) = Unit {0}
+abbrev pub EndsOwn : List Doing → ℕ → Deed → Type 0
+EndsOwn past caller (deed.Call raw) = Unit {0}
+EndsOwn past caller (deed.Finish run ruling) = IsLive past caller run
+EndsOwn past caller (deed.Park run why) = IsLive past caller run
+EndsOwn past caller (deed.Tick moment) = Unit {0}
 
 -- an entry may come after what happened
 pub record IsAllowed (setup : Setup) (past : List Happening) (entry : Entry) : Type 0 where
   pub caller : entry.caller < 2 ^ 62
   pub clock : IsWithinClock entry.deed
-  pub own : EndsOwn (attempts_after past) entry.caller entry.deed
+  pub own : EndsOwn (doings_after past) entry.caller entry.deed
   pub room : is_full_after setup past entry.deed ≡ false
 
 -- each of these entries may come after those before it

@@ -60,7 +60,7 @@ settled_reply now rows ruling.Challenge object batch = shown_reply now rows obje
 -- the reply to a ruling whose outcome is this
 abbrev pub ruling_reply : ℕ → List Row → Ruling → Outcome → Reply
 ruling_reply now rows ruling (Refuses error) = error_reply error
-ruling_reply now rows ruling (Adds object batch) = settled_reply now rows ruling object batch
+ruling_reply now rows ruling (Adds touch object batch) = settled_reply now rows ruling object batch
 
 -- the error of a run that was given up
 abbrev pub problem_of : Why → Problem

@@ -1,29 +1,18 @@
 -- Runs: which are live, and whose.
-use Rattle.std.specs.Prelude.{◌≡◌, ℕ, Bool, ◌==◌, ◌&&◌, List, [], ◌∷◌, Option, Some, None, find}
+use Rattle.std.specs.Prelude.{◌≡◌, ℕ, ◌==◌, if◌then◌else◌, List, Option, Some, None}
 use Rattle.ph_attempts.specs.declared.flights.Flight.{Flight}
-use Rattle.ph_attempts.specs.declared.flights.Attempt.{Attempt}
-use Rattle.ph_attempts.specs.declared.flights.Attempt.TheVariants.{Live, Parked}
-use Rattle.ph_attempts.specs.Attempts.{Step, after}
+use Rattle.ph_doings.specs.Doings.{Doing}
+use Rattle.ph_doings.specs.Runs.{Run, NoRun, Flies, live_run}
 
--- the attempts after a step, where one is made
-abbrev pub after_step : List Attempt → Option Step → List Attempt
-after_step attempts None = attempts
-after_step attempts (Some step) = after attempts step
-
--- the live runs
-abbrev pub live_of : List Attempt → List Flight
-live_of [] = []
-live_of (Live flight ∷ attempts) = flight ∷ live_of attempts
-live_of (Parked order ∷ attempts) = live_of attempts
-
--- the run has this number, and this caller began it
-abbrev pub is_run : ℕ → ℕ → Flight → Bool
-is_run caller run flight = flight.run == run && flight.caller == caller
+-- a run, where it is live and of this caller
+abbrev pub if_own : ℕ → Run → Option Flight
+if_own caller NoRun = None
+if_own caller (Flies flight) = if flight.caller == caller then Some flight else None
 
 -- the live run of a caller with a number
-abbrev pub run_in : List Attempt → ℕ → ℕ → Option Flight
-run_in attempts caller run = find (is_run caller run) (live_of attempts)
+abbrev pub own_run : List Doing → ℕ → ℕ → Option Flight
+own_run past caller run = if_own caller (live_run past run)
 
 -- a live run of this caller has the number
-abbrev pub IsLive : List Attempt → ℕ → ℕ → Type 0
-IsLive attempts caller run = (flight : Flight) × (run_in attempts caller run ≡ Some flight)
+abbrev pub IsLive : List Doing → ℕ → ℕ → Type 0
+IsLive past caller run = (flight : Flight) × (own_run past caller run ≡ Some flight)

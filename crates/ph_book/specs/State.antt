@@ -1,12 +1,13 @@
 -- What contracts see of a book, and what holds of what it keeps.
 use Rattle.std.specs.Prelude.{◌≡◌, ℕ, ◌+◌, ◌*◌, ◌^◌, ◌≤◌, ◌<◌, List, [], ◌∷◌, ◌++◌, length}
 use Rattle.ph_attempts.specs.declared.flights.Attempt.{Attempt}
+use Rattle.ph_doings.specs.Kept.{attempts_after}
+use Rattle.ph_doings.specs.Runs.{live_runs}
 use Rattle.ph_rows.specs.declared.rows.Row.{Row}
 use Rattle.ph_book.specs.declared.setup.Setup.{Setup}
 use Rattle.ph_book.specs.declared.acts.Entry.{Entry}
-use Rattle.ph_book.specs.History.{past_of, rows_of, time_of, attempts_of}
+use Rattle.ph_book.specs.History.{past_of, rows_of, time_of, doings_of}
 use Rattle.ph_book.specs.Legal.{weight_after, IsLegal}
-use Rattle.ph_book.specs.Runs.{live_of}
 
 -- a book is its setup and its history
 pub record BookState : Type 0 where
@@ -22,8 +23,9 @@ pub record IsBook (setup : Setup) (history : List Entry) (rows : List Row) (time
   pub rows_are : rows ≡ rows_of setup history
   pub time_is : time ≡ time_of setup history
   pub weight_is : weight ≡ weight_after setup (past_of setup history)
-  pub attempts_are : attempts ≡ attempts_of setup history
-  pub live_is : live ≡ length (live_of attempts)
+  pub attempts_are : attempts ≡ attempts_after (doings_of setup history)
+  pub live_is : live ≡ length (live_runs (doings_of setup history))
+  pub few : setup.entries < 2 ^ 32
   pub legal : IsLegal setup history
 
 -- there is room for the end of each live run: for an entry, a row and its weight, and a reply

@@ -7,12 +7,12 @@ use Rattle.ph_book.specs.declared.acts.Act.TheVariants as act
 use Rattle.ph_book.specs.declared.acts.Answer.{Answer}
 use Rattle.ph_book.specs.declared.acts.Answer.TheVariants as answer
 use Rattle.ph_book.specs.declared.acts.Entry.{Entry}
-use Rattle.ph_book.specs.History.{attempts_of}
-use Rattle.ph_book.specs.Runs.{run_in}
+use Rattle.ph_book.specs.History.{doings_of}
+use Rattle.ph_book.specs.Runs.{own_run}
 
 -- the ticket is that of a live run of this caller
 unfoldable pub Holds : Setup → List Entry → ℕ → Flight → Type 0
-Holds setup history caller ticket = run_in (attempts_of setup history) caller ticket.run ≡ Some ticket
+Holds setup history caller ticket = own_run (doings_of setup history) caller ticket.run ≡ Some ticket
 
 -- the act ends a live run of this caller by its own ticket, where it ends one
 abbrev pub SpendsOwn : Setup → List Entry → ℕ → Act → Type 0

@@ -1,12 +1,13 @@
 //! The book.
-ghost use Rattle.std.specs.Prelude.{◌≡◌, ◌+◌, ◌^◌, ◌<◌, ◌≤◌, ◌↔◌, ◌∷◌, ◌++◌, [], false, length, None, Some, IfOk, IfErr, OnOk, OnErr, IsTrue};
+ghost use Rattle.std.specs.Prelude.{◌≡◌, ◌+◌, ◌^◌, ◌<◌, ◌≤◌, ◌↔◌, ◌∷◌, ◌++◌, [], false, true, length, None, Some, IfOk, IfErr, OnOk, OnErr, IsTrue};
 ghost use Rattle.ph_attempts.specs.Attempts.{Begins};
+ghost use Rattle.ph_doings.specs.Kept.{step_of};
 ghost use Rattle.ph_items.specs.Clocks.{clock_limit};
 ghost use Rattle.ph_lock.specs.declared.object.Refused.{Refused};
 ghost use Rattle.ph_book.specs.declared.acts.Deed.TheVariants as deed;
 ghost use Rattle.ph_book.specs.State.{BookState, entered};
-ghost use Rattle.ph_book.specs.Answers.{HasStatus, IsAnswerTo, Says, replies_in};
-ghost use Rattle.ph_book.specs.Called.{IsCalled};
+ghost use Rattle.ph_book.specs.Answers.{HasStatus, IsAnswerTo, IsNoPark, Says, is_ruled, replies_in};
+ghost use Rattle.ph_book.specs.Called.{IsCalled, Steps};
 ghost use Rattle.ph_book.specs.Entries.{IsGranted, IsWithinClock, call_entry, deed_of, entry_of, finish_entry, park_entry, tick_entry};
 ghost use Rattle.ph_book.specs.History.{effect_to, opening_row, replies_of, said_to, time_of};
 ghost use Rattle.ph_book.specs.Replies.{Replies, Silence, park_reply};
@@ -17,7 +18,7 @@ use crate::acts::{Act, Answer, Deed, Entry};
 use crate::calls::{Called, called_by};
 use crate::endings::{Ending, parked_row, settled};
 use crate::room::{later, one_less, push_row, take_room};
-use crate::setup::Setup;
+use crate::setup::{Setup, few_entries};
 use crate::spares::{Spare, add_spare, take_spare};
 use crate::store::Store;
 use crate::weights::{self, row_weight};
@@ -83,6 +84,7 @@ impl Book {
         requires opened { setup.opened ≤ clock_limit }
         ensures { IfOk result (λ book. book ≡ record { setup = setup; history = [] }) }
     {
+        few_entries(setup.entries);
         let store = opening_store(alloc, setup.opened)?;
         Ok(Book {
             alloc,
@@ -137,6 +139,8 @@ impl Book {
         ensures entry { OnOk result (self.new ≡ entered self.old (call_entry caller raw)) }
         ensures answer { IfOk result (λ answer. Says (length self.old.history + 1) caller (said_to self.old.setup self.old.history (call_entry caller raw)) answer) }
         ensures live { IfOk result (λ answer. HandsOut self.new.setup self.new.history caller answer) }
+        ensures kind { IfOk result (λ answer. IsNoPark answer) }
+        ensures status { IfOk result (λ answer. HasStatus answer) }
         ensures unchanged { IfErr result (λ refused. (refused.0 ≡ raw) × (self.new ≡ self.old)) }
         ensures full { IfErr result (λ refused. (refused.1 ≡ Refused.Full) ↔ IsTrue (is_full self.old.setup self.old.history (deed.Call raw))) }
         ensures room { OnOk result (is_full self.old.setup self.old.history (deed.Call raw) ≡ false) }
@@ -159,7 +163,8 @@ impl Book {
     fn enter_called(&mut self, caller: u64, raw: Raw, called: Called) -> Result<Answer, Raw>
         requires caller { caller < 2 ^ 62 }
         requires room { is_full self.old.setup self.old.history (deed.Call raw) ≡ false }
-        requires called { IsCalled (time_of self.old.setup self.old.history) (length self.old.history + 1) caller (effect_to self.old.setup self.old.history (call_entry caller raw)) called }
+        requires steps { Steps caller (length self.old.history + 1) (effect_to self.old.setup self.old.history (call_entry caller raw)) }
+        requires called { IsCalled (time_of self.old.setup self.old.history) (effect_to self.old.setup self.old.history (call_entry caller raw)) called }
         ensures entry { OnOk result (self.new ≡ entered self.old (call_entry caller raw)) }
         ensures answer { IfOk result (λ answer. Says (length self.old.history + 1) caller (said_to self.old.setup self.old.history (call_entry caller raw)) answer) }
         ensures live { IfOk result (λ answer. HandsOut self.new.setup self.new.history caller answer) }
@@ -182,7 +187,7 @@ impl Book {
         requires caller { caller < 2 ^ 62 }
         requires room { is_full self.old.setup self.old.history (deed.Call raw) ≡ false }
         requires rows { (effect_to self.old.setup self.old.history (call_entry caller raw)).rows ≡ rows.items }
-        requires step { (effect_to self.old.setup self.old.history (call_entry caller raw)).step ≡ None }
+        requires step { step_of (effect_to self.old.setup self.old.history (call_entry caller raw)).doing ≡ None }
         requires now { (effect_to self.old.setup self.old.history (call_entry caller raw)).now ≡ now }
         ensures entry { OnOk result (self.new ≡ entered self.old (call_entry caller raw)) }
         ensures unchanged { IfErr result (λ back. (back ≡ raw) × (self.new ≡ self.old)) }
@@ -210,7 +215,7 @@ impl Book {
         requires caller { caller < 2 ^ 62 }
         requires room { is_full self.old.setup self.old.history (deed.Call raw) ≡ false }
         requires rows { (effect_to self.old.setup self.old.history (call_entry caller raw)).rows ≡ rows.items }
-        requires step { (effect_to self.old.setup self.old.history (call_entry caller raw)).step ≡ Some (Begins (record { caller = caller; run = length self.old.history + 1; order = order })) }
+        requires step { step_of (effect_to self.old.setup self.old.history (call_entry caller raw)).doing ≡ Some (Begins (record { caller = caller; run = length self.old.history + 1; order = order })) }
         requires now { (effect_to self.old.setup self.old.history (call_entry caller raw)).now ≡ time_of self.old.setup self.old.history }
         ensures entry { OnOk result (self.new ≡ entered self.old (call_entry caller raw)) }
         ensures ticket { IfOk result (λ ticket. ticket ≡ record { caller = caller; run = length self.old.history + 1; order = order }) }
@@ -251,6 +256,7 @@ impl Book {
         requires own { Holds self.old.setup self.old.history caller ticket }
         ensures entry { OnOk result (self.new ≡ entered self.old (finish_entry caller ticket ruling)) }
         ensures said { IfOk result (λ reply. said_to self.old.setup self.old.history (finish_entry caller ticket ruling) ≡ Replies reply) }
+        ensures ruled { IfOk result (λ reply. is_ruled reply.status ≡ true) }
         ensures unchanged { IfErr result (λ back. (back ≡ ticket) × (self.new ≡ self.old)) }
     {
         let live = one_less(self.live);

@@ -1,16 +1,18 @@
 //! What a call comes to.
-ghost use Rattle.std.specs.Prelude.{◌≡◌, ℕ, length, IfOk, None};
+ghost use Rattle.std.specs.Prelude.{◌≡◌, ℕ, [], length, IfOk, None};
 ghost use Rattle.ph_rows.specs.Batches.{BatchState, empty_batch};
 ghost use Rattle.ph_rows.specs.Names.{owned_named};
 ghost use Rattle.ph_facts.specs.Outcomes.{Gives, Outcome};
 ghost use Rattle.ph_calls.specs.Reading.{reading_of};
 ghost use Rattle.ph_views.specs.Balances.{balance_doc};
 ghost use Rattle.ph_items.specs.Accounts.{platform};
-ghost use Rattle.ph_intents.specs.Attempts.{begun};
+ghost use Rattle.ph_intents.specs.Begun.{GivesBegun};
 ghost use Rattle.ph_intents.specs.Capture.{capture_outcome};
-ghost use Rattle.ph_book.specs.Calls.{Makes, Shows, and_opened, authenticated, called_at, carried, clock_set, created, is_key, is_platform, read_upshot, retrieved};
-ghost use Rattle.ph_book.specs.Called.{Comes, IsCalled};
-ghost use Rattle.ph_book.specs.History.{added_effect, call_effect, shown_effect};
+ghost use Rattle.ph_book.specs.Calls.{Makes, Rejects, Shows, and_opened, authenticated, called_at, carried, clock_set, created, is_key, is_platform, read_upshot, retrieved};
+ghost use Rattle.ph_book.specs.Called.{Comes, IsCalled, IsRejected};
+ghost use Rattle.ph_book.specs.History.{Effect, call_effect};
+ghost use Rattle.ph_book.specs.Replies.{Replies, Waits, doc_reply, error_reply, shown_reply};
+ghost use Rattle.ph_rows.specs.Batches.{made_rows};
 
 use crate::replies::{doc_reply, error_reply, shown_reply};
 use crate::store::Store;
@@ -19,7 +21,7 @@ use ph_calls::{Authenticate, Call, CaptureIntent, CreateIntent, read_call};
 use ph_disputes::{close, evidence, open_due};
 use ph_errors::{ApiError, Refusal};
 use ph_http::{Raw, Reply};
-use ph_intents::{Begin, begin, begun, cancel, capture, create, fail_authentication, update};
+use ph_intents::{Begin, Begun, begin, cancel, capture, create, fail_authentication, update};
 use ph_items::{Order, PLATFORM};
 use ph_json::Doc;
 use ph_kinds::Authentication;
@@ -31,8 +33,12 @@ use std::alloc::Global;
 /// What was carried out of a call.
 #[derive(Drop)]
 pub enum Carried {
+    /// The request is no call that may be carried out.
+    Rejected(ApiError),
     /// The batch was added to, and the object of this number is shown.
     Added(u64),
+    /// The batch was added to, and the call waits for an order.
+    Begun(Begun),
     /// This document is shown.
     Shown(Doc),
     /// The clock is set to this moment, in seconds since 1970.
@@ -96,13 +102,19 @@ fn make(
     store: &Store,
     call: &CreateIntent,
     batch: &mut Batch,
-) -> Result<u64, Refusal>
-    ensures { Gives (created store.now.rows call.now batch.old) batch.old result batch.new }
+) -> Result<Carried, Refusal>
+    ensures { Comes (Makes (created store.now.rows call.now batch.old)) result batch.new }
 {
     if call.confirm {
-        begin(alloc, store, PLATFORM, &Begin::Create(call), batch)
+        begun(begin(
+            alloc,
+            store,
+            PLATFORM,
+            &Begin::Create(call),
+            batch,
+        ))
     } else {
-        create(alloc, store, PLATFORM, call, batch)
+        added(create(alloc, store, PLATFORM, call, batch))
     }
 }
 
@@ -130,14 +142,18 @@ fn authenticate(
     store: &Store,
     call: &Authenticate,
     batch: &mut Batch,
-) -> Result<u64, Refusal>
-    ensures { Gives (authenticated store.now.rows call.now batch.old call.now.outcome) batch.old result batch.new }
+) -> Result<Carried, Refusal>
+    ensures { Comes (Makes (authenticated store.now.rows call.now batch.old call.now.outcome)) result batch.new }
 {
     match call.outcome {
-        Authentication::Succeeded => {
-            begin(alloc, store, PLATFORM, &Begin::Authenticate(call), batch)
-        }
-        Authentication::Failed => fail_authentication(alloc, store, PLATFORM, call, batch),
+        Authentication::Succeeded => begun(begin(
+            alloc,
+            store,
+            PLATFORM,
+            &Begin::Authenticate(call),
+            batch,
+        )),
+        Authentication::Failed => added(fail_authentication(alloc, store, PLATFORM, call, batch)),
     }
 }
 
@@ -172,18 +188,38 @@ fn added(given: Result<u64, Refusal>) -> Result<Carried, Refusal>
     }
 }
 
+// What an operation that begins an attempt carried out.
+fn begun(given: Result<Begun, Refusal>) -> Result<Carried, Refusal>
+    ensures { (outcome : Outcome) (old batch : BatchState) → GivesBegun outcome old given batch → Comes (Makes outcome) result batch }
+{
+    match given {
+        Ok(begun) => Ok(Carried::Begun(begun)),
+        Err(refusal) => Err(refusal),
+    }
+}
+
+// A request that is rejected for this.
+fn rejected(refusal: Refusal) -> Result<Carried, Refusal>
+    ensures { IsRejected refusal result }
+{
+    match refusal {
+        Refusal::Api(error) => Ok(Carried::Rejected(error)),
+        Refusal::NoMemory => Err(Refusal::NoMemory),
+    }
+}
+
 // Carries a call out: one arm for each row of the table of calls.
 fn carry(alloc: Global, store: &Store, call: &Call, batch: &mut Batch) -> Result<Carried, Refusal>
     ensures { Comes (carried store.now.rows store.now.time call.now batch.old) result batch.new }
 {
     match call {
-        Call::CreateIntent(call) => added(make(alloc, store, call, batch)),
+        Call::CreateIntent(call) => make(alloc, store, call, batch),
         Call::GetIntent(call) => {
             added(retrieve(alloc, store, Kind::Intent, call.id.as_slice(), batch))
         }
         Call::UpdateIntent(call) => added(update(alloc, store, PLATFORM, call, batch)),
         Call::ConfirmIntent(call) => {
-            added(begin(alloc, store, PLATFORM, &Begin::Confirm(call), batch))
+            begun(begin(alloc, store, PLATFORM, &Begin::Confirm(call), batch))
         }
         Call::CaptureIntent(call) => added(take(alloc, store, call, batch)),
         Call::CancelIntent(call) => added(cancel(alloc, store, PLATFORM, call, batch)),
@@ -202,7 +238,7 @@ fn carry(alloc: Global, store: &Store, call: &Call, batch: &mut Batch) -> Result
         Call::GetBalance(_) => balance(alloc, store),
         Call::GetTxn(call) => added(retrieve(alloc, store, Kind::Txn, call.id.as_slice(), batch)),
         Call::SetClock(call) => set_clock(alloc, store.time(), call.now),
-        Call::Authenticate(call) => added(authenticate(alloc, store, call, batch)),
+        Call::Authenticate(call) => authenticate(alloc, store, call, batch),
     }
 }
 
@@ -217,7 +253,7 @@ fn read_and_carry(
 {
     match read_call(alloc, raw) {
         Ok(call) => carry(alloc, store, &call, batch),
-        Err(refusal) => Err(refusal),
+        Err(refusal) => rejected(refusal),
     }
 }
 
@@ -234,32 +270,48 @@ fn upshot(
     ensures { Comes (called_at key.now store.now.rows store.now.time batch.old.entry raw.now) result batch.new }
 {
     if !is_key(key, &raw.auth) {
-        return Err(Refusal::of(ApiError::invalid_api_key(alloc)));
+        return rejected(Refusal::of(ApiError::invalid_api_key(alloc)));
     }
     if !is_platform(&raw.account) {
-        return Err(Refusal::of(ApiError::no_such_account(alloc)));
+        return rejected(Refusal::of(ApiError::no_such_account(alloc)));
     }
     read_and_carry(alloc, store, raw, batch)
 }
 
-// What an accepted call comes to, which shows an object: a run where its batch begins an attempt, and else a reply.
+// An accepted call, which shows an object.
 fn shown(alloc: Global, store: &Store, object: u64, batch: Batch) -> Result<Called, NoMemory>
-    ensures { (place caller : ℕ) → IfOk result (λ called. IsCalled store.now.time place caller (added_effect store.now.rows store.now.time place caller object batch (begun batch)) called) }
+    ensures { (effect : Effect) → effect.said ≡ Replies (shown_reply store.now.time store.now.rows object batch) → effect.rows ≡ made_rows None batch
+        → effect.now ≡ store.now.time → IfOk result (λ called. IsCalled store.now.time effect called) }
 {
-    match begun(&batch) {
-        None => {
-            let reply = shown_reply(alloc, store, object, &batch)?;
-            Ok(Called::Answered(reply, batch.into_rows(alloc, None)?, store.time()))
-        }
-        Some(order) => Ok(Called::Waiting(order, batch.into_rows(alloc, None)?)),
-    }
+    let reply = shown_reply(alloc, store, object, &batch)?;
+    let rows = batch.into_rows(alloc, None)?;
+    Ok(Called::Answered(reply, rows, store.time()))
+}
+
+// An accepted call, which waits for an order.
+fn waiting(alloc: Global, order: Order, batch: Batch) -> Result<Called, NoMemory>
+    ensures { (now : ℕ) (effect : Effect) → effect.said ≡ Waits order → effect.rows ≡ made_rows None batch → effect.now ≡ now
+        → IfOk result (λ called. IsCalled now effect called) }
+{
+    let rows = batch.into_rows(alloc, None)?;
+    Ok(Called::Waiting(order, rows))
 }
 
 // A call that shows a document, and leaves this time.
 fn answered(alloc: Global, doc: &Doc, now: u64) -> Result<Called, NoMemory>
-    ensures { (time place caller : ℕ) → IfOk result (λ called. IsCalled time place caller (shown_effect doc.now now) called) }
+    ensures { (time : ℕ) (effect : Effect) → effect.said ≡ Replies (doc_reply doc.now) → effect.rows ≡ [] → effect.now ≡ now
+        → IfOk result (λ called. IsCalled time effect called) }
 {
     let reply = doc_reply(alloc, doc)?;
+    Ok(Called::Answered(reply, Vec::new(alloc), now))
+}
+
+// A request that is refused or rejected, which leaves this time.
+fn refused(alloc: Global, error: &ApiError, now: u64) -> Result<Called, NoMemory>
+    ensures { (time : ℕ) (effect : Effect) → effect.said ≡ Replies (error_reply error.now) → effect.rows ≡ [] → effect.now ≡ now
+        → IfOk result (λ called. IsCalled time effect called) }
+{
+    let reply = error_reply(alloc, error, None)?;
     Ok(Called::Answered(reply, Vec::new(alloc), now))
 }
 
@@ -271,17 +323,16 @@ pub fn called_by(
     place: u64,
     raw: &Raw,
 ) -> Result<Called, NoMemory>
-    ensures { (caller : ℕ) → IfOk result (λ called. IsCalled store.now.time place caller (call_effect store.now.rows store.now.time place caller (called_at key.now store.now.rows store.now.time place raw.now)) called) }
+    ensures { (caller : ℕ) → IfOk result (λ called. IsCalled store.now.time (call_effect None store.now.rows store.now.time place caller (called_at key.now store.now.rows store.now.time place raw.now)) called) }
 {
     let mut batch = Batch::new(alloc, store.rows().len() as u64, store.time(), place);
     match upshot(alloc, key, store, raw, &mut batch) {
         Ok(Carried::Added(object)) => shown(alloc, store, object, batch),
+        Ok(Carried::Begun(begun)) => waiting(alloc, begun.order, batch),
         Ok(Carried::Shown(doc)) => answered(alloc, &doc, store.time()),
         Ok(Carried::Set(moment)) => answered(alloc, &clock_doc(alloc, moment)?, moment),
-        Err(Refusal::Api(error)) => {
-            let reply = error_reply(alloc, &error, None)?;
-            Ok(Called::Answered(reply, Vec::new(alloc), store.time()))
-        }
+        Ok(Carried::Rejected(error)) => refused(alloc, &error, store.time()),
+        Err(Refusal::Api(error)) => refused(alloc, &error, store.time()),
         Err(Refusal::NoMemory) => Err(NoMemory),
     }
 }

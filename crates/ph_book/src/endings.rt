@@ -1,6 +1,6 @@
 //! What the end of a run comes to.
-ghost use Rattle.std.specs.Prelude.{◌≡◌, ℕ, IfOk, option_to_list};
-ghost use Rattle.ph_book.specs.History.{outcome_rows, parked_rows, ruled_outcome};
+ghost use Rattle.std.specs.Prelude.{◌≡◌, ℕ, IfOk, None, option_to_list};
+ghost use Rattle.ph_book.specs.History.{outcome_rows, parked_outcome, ruled_outcome};
 ghost use Rattle.ph_book.specs.Replies.{ruling_reply};
 
 use crate::replies::settled_reply;
@@ -29,7 +29,7 @@ pub fn settled(
     ruling: Ruling,
 ) -> Result<Ending, NoMemory>
     ensures reply { IfOk result (λ made. made.reply ≡ ruling_reply store.now.time store.now.rows ruling (ruled_outcome store.now.rows store.now.time place attempt ruling)) }
-    ensures rows { IfOk result (λ made. made.rows.items ≡ outcome_rows (ruled_outcome store.now.rows store.now.time place attempt ruling)) }
+    ensures rows { IfOk result (λ made. made.rows.items ≡ outcome_rows None (ruled_outcome store.now.rows store.now.time place attempt ruling)) }
 {
     let mut batch = Batch::new(alloc, store.rows().len() as u64, store.time(), place);
     let object = settle(alloc, store, attempt, ruling, &mut batch)?;
@@ -41,7 +41,7 @@ pub fn settled(
 
 /// The row that parks the attempt of a number, over the rows of a store. It takes no memory.
 pub fn parked_row(store: &Store, attempt: u64) -> Option<Row>
-    ensures { (place : ℕ) → option_to_list result ≡ parked_rows store.now.rows store.now.time place attempt }
+    ensures { (place : ℕ) → option_to_list result ≡ outcome_rows None (parked_outcome store.now.rows store.now.time place attempt) }
 {
     let row = store.latest(attempt)?;
     let mut parked = *row.item.attempt()?;

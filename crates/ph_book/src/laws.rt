@@ -1,12 +1,12 @@
 //! What holds of every legal history.
-ghost use Rattle.std.specs.Prelude.{◌<◌, ◌^◌};
-ghost use Rattle.ph_book.specs.History.{rows_of};
+ghost use Rattle.ph_doings.specs.Laws.{HasOneUnsettled};
+ghost use Rattle.ph_book.specs.History.{doings_of, rows_of};
 ghost use Rattle.ph_book.specs.Legal.{IsLegal};
-ghost use Rattle.ph_book.specs.Laws.{AmountsAreSums, BalancesAreSums, DisputesMoveOnce, HaveDifferentIds, RefundsFit};
+ghost use Rattle.ph_book.specs.Laws.{AmountsAreSums, BalancesAreSums, DisputesMoveOnce, HaveDifferentIds, HaveDifferentReferences, RefundsFit, RunsAreShown, WereChallenged};
 
 use crate::acts::Entry;
 use crate::book::Book;
-use crate::setup::Setup;
+use crate::setup::{Setup, few_entries};
 
 /// The history of a book is legal.
 pub fn history_is_legal(book: &Book)
@@ -14,11 +14,6 @@ pub fn history_is_legal(book: &Book)
 {
     let _history = book.history();
 }
-
-// A setup has room for fewer than 2^32 entries.
-fn few_entries(_entries: u32)
-    ensures { _entries < 2 ^ 32 }
-{}
 
 /// The first versions of different objects have different ids.
 pub fn ids_differ(setup: &Setup, _history: &[Entry])
@@ -56,6 +51,39 @@ pub fn refunds_fit(setup: &Setup, _history: &[Entry])
 pub fn disputes_move_once(setup: &Setup, _history: &[Entry])
     requires { IsLegal setup.now _history.now }
     ensures { DisputesMoveOnce (rows_of setup.now _history.now) }
+{
+    few_entries(setup.entries);
+}
+
+/// Different attempts have different references.
+pub fn references_differ(setup: &Setup, _history: &[Entry])
+    requires { IsLegal setup.now _history.now }
+    ensures { HaveDifferentReferences (doings_of setup.now _history.now) }
+{
+    few_entries(setup.entries);
+}
+
+/// A payment intent is processing exactly where it has an attempt that isn't settled, and it never has two.
+pub fn processing_has_one_attempt(setup: &Setup, _history: &[Entry])
+    requires { IsLegal setup.now _history.now }
+    ensures { HasOneUnsettled (doings_of setup.now _history.now) }
+{
+    few_entries(setup.entries);
+}
+
+/// Of a confirmation's attempts all but the last are settled with a challenge.
+pub fn all_but_the_last_were_challenged(setup: &Setup, _history: &[Entry])
+    requires { IsLegal setup.now _history.now }
+    ensures { WereChallenged (doings_of setup.now _history.now) }
+{
+    few_entries(setup.entries);
+}
+
+/// The last row of each live run's attempt is live under its order, and that of its payment intent is processing: a
+/// ruling finds both.
+pub fn live_runs_are_shown(setup: &Setup, _history: &[Entry])
+    requires { IsLegal setup.now _history.now }
+    ensures { RunsAreShown (doings_of setup.now _history.now) (rows_of setup.now _history.now) }
 {
     few_entries(setup.entries);
 }

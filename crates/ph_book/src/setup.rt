@@ -1,4 +1,5 @@
 //! What a book is made with.
+ghost use Rattle.std.specs.Prelude.{◌<◌, ◌^◌};
 
 use ph_base::Bytes;
 
@@ -14,3 +15,8 @@ pub struct Setup {
     /// How much the history may weigh: the bytes of its requests, and of its rows 256 each and the bytes of their texts.
     pub weight: u64,
 }
+
+/// A setup has room for fewer than 2^32 entries.
+pub fn few_entries(_entries: u32)
+    ensures { _entries < 2 ^ 32 }
+{}

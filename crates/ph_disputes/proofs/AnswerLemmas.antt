@@ -1,6 +1,6 @@
 -- Evidence and closes may be entered.
 use Rattle.std.specs.Prelude.{◌||◌}
-use Rattle.std.proofs.Common.{◌≡◌, ℕ, ◌+◌, ◌^◌, ◌≤◌, ◌<◌, Bool, true, false, cond, List, [], ◌∷◌, ◌++◌, Option, Some, length, refl, sym, ap, ◌∙◌, subst, arith}
+use Rattle.std.proofs.Common.{◌≡◌, ℕ, ◌+◌, ◌^◌, ◌≤◌, ◌<◌, Bool, true, false, cond, List, [], ◌∷◌, ◌++◌, Option, Some, length, refl, sym, ap, ◌∙◌, subst, arith, codes}
 use Rattle.std.specs.List.{list_all, list_any}
 use Rattle.std.specs.Str.{is_utf8}
 use Rattle.std.proofs.lemmas.Bool.{cond_both, eq-eqb, false≢true, ne_eqb}
@@ -22,10 +22,12 @@ use Rattle.ph_rows.specs.Views.{ViewState}
 use Rattle.ph_rows.proofs.RowLemmas.{is_version, latest_of-apart, latest_of-front, latest_of-last, row_at-before, row_at_within}
 use Rattle.ph_facts.specs.Amounts.{given_move, moved, moves_in, moves_of, taken_move}
 use Rattle.ph_facts.specs.Entering.{IsToldBy, MayBeEntered}
-use Rattle.ph_facts.specs.Keeps.{AddsSound, IsReady, KeepsSound, batch_after, no_texts}
+use Rattle.ph_facts.specs.Keeps.{IsReady, KeepsRows, KeepsSound, MayBeAdded, batch_after, no_texts}
 use Rattle.ph_facts.specs.Order.{AllMayFollow, IsInOrder, MayFollow, with_next}
 use Rattle.ph_facts.specs.Origins.{HasOrigins, IsOrigin, origins_of}
 use Rattle.ph_facts.specs.Outcomes.{Refuses, Adds}
+use Rattle.ph_facts.specs.Touches.{Untouched}
+use Rattle.ph_facts.proofs.DoneLemmas.{dispute_closed, no_object}
 use Rattle.ph_facts.specs.Tallies.{SaysSum}
 use Rattle.ph_facts.proofs.AmountLemmas.{moved_sum}
 use Rattle.ph_facts.proofs.FollowLemmas.{first_follows, further_follows}
@@ -178,19 +180,24 @@ module _ (state : ViewState) (entry : ℕ) (row : Row) (dispute after : Dispute)
   }
 
 -- what is made of a dispute that isn't closed may be entered, where its batch may
-if_open_adds : (state : ViewState) (now : DisputeStatus) (object : ℕ) (batch : BatchState)
-    → (is_closed now ≡ false → MayBeEntered state batch) → AddsSound state (if_open now object batch)
-if_open_adds state now object batch enters =
-    cond_both (is_closed now) (Refuses (error_of DisputeClosed)) (Adds object batch) (AddsSound state) (λ closed. tt) enters
+if_open_adds : (state : ViewState) (most : ℕ) (now : DisputeStatus) (object : ℕ) (batch : BatchState)
+    → (is_closed now ≡ false → MayBeAdded state most Untouched batch) → KeepsRows state most (if_open now object batch)
+if_open_adds state most now object batch adds =
+    cond_both (is_closed now) (Refuses (error_of DisputeClosed)) (Adds Untouched object batch) (KeepsRows state most) (λ closed. dispute_closed)
+    (λ still. (adds still, tt))
 
 -- what a close adds may be entered
-pub close_keeps : KeepsSound no_texts close_outcome
+pub close_keeps : KeepsSound no_texts 2 close_outcome
 close_keeps state entry account call ready texts =
-    holds_at (AddsSound state) state (close_of (batch_after state entry)) account call.id ready.sound tt
+    holds_at (KeepsRows state 2) state (close_of (batch_after state entry)) account call.id ready.sound (no_object (codes "id"))
     (λ row dispute found.
-    if_open_adds state dispute.status row.object
+    if_open_adds state 2 dispute.status row.object
     (with_closed row (with_version row (lost_dispute dispute) (batch_after state entry)))
-    (λ still. closed_enters state entry row dispute (lost_dispute dispute) ready found still (kept row dispute found) refl refl))
+    (λ still. record {
+      enters = closed_enters state entry row dispute (lost_dispute dispute) ready found still (kept row dispute found) refl refl;
+      few = omega arith;
+      shown = refl;
+    }))
   where
     kept : (row : Row) (dispute : Dispute) → IsFound state.rows row dispute
         → list_all is_utf8 (texts_of (item.Dispute dispute)) ≡ true
@@ -202,25 +209,41 @@ verdict_enters : (state : ViewState) (entry : ℕ) (row : Row) (dispute after : 
     → IsFound state.rows row dispute → is_closed dispute.status ≡ false
     → list_all is_utf8 (texts_of (item.Dispute after)) ≡ true → after.charge ≡ dispute.charge → after.amount ≡ dispute.amount
     → after.status ≡ now
-    → MayBeEntered state (with_verdict now row dispute (with_version row after (batch_after state entry)))
+    → MayBeAdded state 3 Untouched (with_verdict now row dispute (with_version row after (batch_after state entry)))
 verdict_enters state entry row dispute after now ready found still texts of_it amount is = at now is
   where
     moves : (to : DisputeStatus) → after.status ≡ to → moves_in to dispute.amount ≡ moves_in after.status after.amount
     moves to e = ap (λ (s : DisputeStatus). moves_in s dispute.amount) (sym e) ∙ ap (moves_in after.status) (sym amount)
 
     at : (to : DisputeStatus) → after.status ≡ to
-        → MayBeEntered state (with_verdict to row dispute (with_version row after (batch_after state entry)))
-    at status.NeedsResponse e = version_enters state entry row dispute after ready found still texts of_it (moves status.NeedsResponse e)
-    at status.UnderReview e = version_enters state entry row dispute after ready found still texts of_it (moves status.UnderReview e)
-    at status.Won e = won_enters state entry row dispute after ready found still texts of_it (moves status.Won e)
-    at status.Lost e = closed_enters state entry row dispute after ready found still texts of_it (moves status.Lost e)
+        → MayBeAdded state 3 Untouched (with_verdict to row dispute (with_version row after (batch_after state entry)))
+    at status.NeedsResponse e = record {
+      enters = version_enters state entry row dispute after ready found still texts of_it (moves status.NeedsResponse e);
+      few = omega arith;
+      shown = refl;
+    }
+    at status.UnderReview e = record {
+      enters = version_enters state entry row dispute after ready found still texts of_it (moves status.UnderReview e);
+      few = omega arith;
+      shown = refl;
+    }
+    at status.Won e = record {
+      enters = won_enters state entry row dispute after ready found still texts of_it (moves status.Won e);
+      few = omega arith;
+      shown = refl;
+    }
+    at status.Lost e = record {
+      enters = closed_enters state entry row dispute after ready found still texts of_it (moves status.Lost e);
+      few = omega arith;
+      shown = refl;
+    }
 
 -- what evidence adds may be entered
-pub evidence_keeps : KeepsSound evidence_texts evidence_outcome
+pub evidence_keeps : KeepsSound evidence_texts 3 evidence_outcome
 evidence_keeps state entry account call ready texts =
-    holds_at (AddsSound state) state (evidence_of call.uncategorized_text (batch_after state entry)) account call.id ready.sound tt
+    holds_at (KeepsRows state 3) state (evidence_of call.uncategorized_text (batch_after state entry)) account call.id ready.sound (no_object (codes "id"))
     (λ row dispute found.
-    if_open_adds state dispute.status row.object (with_evidence call.uncategorized_text row dispute (batch_after state entry))
+    if_open_adds state 3 dispute.status row.object (with_evidence call.uncategorized_text row dispute (batch_after state entry))
     (λ still.
     verdict_enters state entry row dispute (answered_dispute call.uncategorized_text dispute) (verdict_on call.uncategorized_text)
     ready found still texts refl refl refl))

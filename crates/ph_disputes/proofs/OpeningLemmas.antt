@@ -25,6 +25,9 @@ use Rattle.ph_rows.specs.Rows.{row_at, later_version, latest_of}
 use Rattle.ph_rows.specs.Views.{ViewState}
 use Rattle.ph_rows.proofs.RowLemmas.{is_version, latest_from, latest_of-apart, latest_of-behind, latest_of-front, latest_of-last, row_at-before, row_at-next, row_at_within}
 use Rattle.ph_facts.specs.Amounts.{Move, captured, captured_of, moved, moves_of, refunded, refunded_of, taken_move}
+use Rattle.ph_facts.proofs.DoneLemmas.{shown_before}
+use Rattle.ph_facts.specs.Keeps.{MayBeAdded}
+use Rattle.ph_facts.specs.Shown.{shown_in}
 use Rattle.ph_facts.specs.Entering.{AreTold, IsToldBy, MayBeEntered}
 use Rattle.ph_facts.specs.Held.{AreHeld, charge_of}
 use Rattle.ph_facts.specs.Order.{AllMayFollow, IsInOrder, IsWithin, MayFollow, with_next}
@@ -331,8 +334,9 @@ card_in content charge e = at (charge_in content) e
     at (Some version) e = by version version.sort refl e
 
 -- what the opening of a dispute of a charge adds may be entered
-pub open_keeps : OpeningKeepsSound open_of
-open_keeps state batch object sound enters room = at (version_with state.rows batch object) refl
+entered_open : (state : ViewState) (batch : BatchState) (object : ℕ) → IsSound state → MayBeEntered state batch
+    → length state.rows + length batch.rows + 3 < 10 ^ 16 → MayBeEntered state (open_of state.rows object batch)
+entered_open state batch object sound enters room = at (version_with state.rows batch object) refl
   where
     latest : (row : Row) → version_with state.rows batch object ≡ Some row → latest_of object (state.rows ++ batch.rows) ≡ Some row
     latest row e = latest_from object None state.rows batch.rows ∙ fold_or object (latest_of object state.rows) batch.rows ∙ e
@@ -351,10 +355,57 @@ open_keeps state batch object sound enters room = at (version_with state.rows ba
     at None e = enters
     at (Some row) e = of_charge row e (card_charge_in row.item) refl
 
--- what the opening of a dispute that is due adds may be entered
-pub open_due_keeps : OpeningKeepsSound open_due_of
-open_due_keeps state batch intent sound enters room = at (due_charge batch.rows intent)
+-- what it adds is small, and shows nothing
+record IsQuiet (before after : BatchState) : Type 0 where
+  few : length after.rows + length after.announced ≤ length before.rows + length before.announced + 4
+  shown : shown_in after.rows ≡ shown_in before.rows
+
+none_quiet : (batch : BatchState) → IsQuiet batch batch
+none_quiet batch = record { few = omega arith; shown = refl }
+
+rows_quiet : (account object : ℕ) (charge : Charge) (number : ℕ) (batch : BatchState) → IsQuiet batch (opening_rows account object charge number batch)
+rows_quiet account object charge number batch =
+    let opened = next_row batch (last_place batch + 1) account (item.Dispute (new_dispute object charge)) in
+    let disputing = with_dispute account (new_dispute object charge) batch in
+    let txn = next_row disputing (last_place disputing + 1) account (item.Txn (taken_txn number charge disputing.at)) in
+    let taking = with_taken account number charge disputing in
+    let kept = next_row taking object account (item.Charge (disputed_charge number charge)) in
+    let news : Announced = record { sort = event.DisputeCreated; object = number } in
+    let one : length (batch.rows ++ opened ∷ []) ≡ length batch.rows + 1 = length-append batch.rows (opened ∷ []) in
+    let two : length (disputing.rows ++ txn ∷ []) ≡ length disputing.rows + 1 = length-append disputing.rows (txn ∷ []) in
+    let three : length (taking.rows ++ kept ∷ []) ≡ length taking.rows + 1 = length-append taking.rows (kept ∷ []) in
+    let told : length (batch.announced ++ news ∷ []) ≡ length batch.announced + 1 = length-append batch.announced (news ∷ []) in
+    record {
+      few = omega (arith, one, two, three, told);
+      shown = shown_before taking.rows (kept ∷ []) refl ∙ shown_before disputing.rows (txn ∷ []) refl ∙ shown_before batch.rows (opened ∷ []) refl;
+    }
+
+open_quiet : (rows : List Row) (object : ℕ) (batch : BatchState) → IsQuiet batch (open_of rows object batch)
+open_quiet rows object batch = at (version_with rows batch object)
   where
-    at : (charge : Option ℕ) → MayBeEntered state (opening_due state.rows batch charge)
-    at None = enters
-    at (Some charge) = open_keeps state batch charge sound enters room
+    of_charge : (account : ℕ) (charge : Option Charge) → IsQuiet batch (opening_of account object batch charge)
+    of_charge account None = none_quiet batch
+    of_charge account (Some charge) = rows_quiet account object charge (last_place batch + 1) batch
+
+    at : (found : Option Row) → IsQuiet batch (opening_in object batch found)
+    at None = none_quiet batch
+    at (Some row) = of_charge row.account (card_charge_in row.item)
+
+-- what the opening of a dispute of a charge adds may be added
+pub open_keeps : OpeningKeepsSound open_of
+open_keeps state most touch batch object sound may room =
+    let quiet = open_quiet state.rows object batch in
+    let small = quiet.few in
+    let few = may.few in record {
+      enters = entered_open state batch object sound may.enters room;
+      few = omega arith;
+      shown = quiet.shown ∙ may.shown;
+    }
+
+-- and what the opening of a dispute that is due adds
+pub open_due_keeps : OpeningKeepsSound open_due_of
+open_due_keeps state most touch batch intent sound may room = at (due_charge batch.rows intent)
+  where
+    at : (charge : Option ℕ) → MayBeAdded state (most + 4) touch (opening_due state.rows batch charge)
+    at None = let few = may.few in record { enters = may.enters; few = omega arith; shown = may.shown }
+    at (Some charge) = open_keeps state most touch batch charge sound may room

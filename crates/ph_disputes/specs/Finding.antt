@@ -2,6 +2,7 @@
 use Rattle.std.specs.Prelude.{ℕ, Bool, true, false, if◌then◌else◌, List, Option, None, Some, codes}
 use Rattle.ph_base.specs.declared.ids.Kind.TheVariants as kind
 use Rattle.ph_facts.specs.Outcomes.{Outcome, Refuses, Adds}
+use Rattle.ph_facts.specs.Touches.{Untouched}
 use Rattle.ph_errors.specs.Table.{error_of, NoSuchObject, DisputeClosed}
 use Rattle.ph_rows.specs.declared.rows.Row.{Row}
 use Rattle.ph_items.specs.declared.disputes.Dispute.{Dispute}
@@ -38,4 +39,4 @@ is_closed status.Lost = true
 
 -- what a batch becomes, where a dispute isn't closed; the answer is the dispute
 abbrev pub if_open : DisputeStatus → ℕ → BatchState → Outcome
-if_open status object batch = if is_closed status then Refuses (error_of DisputeClosed) else Adds object batch
+if_open status object batch = if is_closed status then Refuses (error_of DisputeClosed) else Adds Untouched object batch

@@ -3,7 +3,8 @@ use Rattle.std.specs.Prelude.{ℕ, ◌+◌, ◌^◌, ◌<◌, List, [], ◌∷�
 use Rattle.ph_calls.specs.declared.call.SendEvidence.{SendEvidence}
 use Rattle.ph_rows.specs.declared.rows.Row.{Row}
 use Rattle.ph_rows.specs.Batches.{BatchState}
-use Rattle.ph_facts.specs.Entering.{MayBeEntered}
+use Rattle.ph_facts.specs.Keeps.{MayBeAdded}
+use Rattle.ph_facts.specs.Touches.{Touch}
 use Rattle.ph_facts.specs.Sound.{IsSound}
 use Rattle.ph_rows.specs.Views.{ViewState}
 
@@ -11,9 +12,10 @@ use Rattle.ph_rows.specs.Views.{ViewState}
 abbrev pub evidence_texts : SendEvidence → List (List ℕ)
 evidence_texts call = call.uncategorized_text ∷ []
 
--- a batch that may be entered after a sound view may be entered with what an opening adds to it, where sixteen digits
--- number its three rows more
+-- a batch that may be added after a sound view may be added with what an opening adds to it, where sixteen digits number
+-- its three rows more: it does no more, and has at most four rows and events more
 abbrev pub OpeningKeepsSound : (List Row → ℕ → BatchState → BatchState) → Type 0
 OpeningKeepsSound opening =
-    (state : ViewState) (batch : BatchState) (object : ℕ) → IsSound state → MayBeEntered state batch
-    → length state.rows + length batch.rows + 3 < 10 ^ 16 → MayBeEntered state (opening state.rows object batch)
+    (state : ViewState) (most : ℕ) (touch : Touch) (batch : BatchState) (object : ℕ) → IsSound state
+    → MayBeAdded state most touch batch → length state.rows + length batch.rows + 3 < 10 ^ 16
+    → MayBeAdded state (most + 4) touch (opening state.rows object batch)

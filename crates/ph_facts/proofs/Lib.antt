@@ -1,5 +1,6 @@
 pub mod AmountLemmas
 pub mod BatchLemmas
+pub mod DoneLemmas
 pub mod EnterLemmas
 pub mod FollowLemmas
 pub mod FoundLemmas

@@ -5,5 +5,8 @@ pub mod Keeps
 pub mod Order
 pub mod Origins
 pub mod Outcomes
+pub mod Shown
 pub mod Sound
+pub mod Statuses
 pub mod Tallies
+pub mod Touches

@@ -1,6 +1,6 @@
 -- What a capture adds may be entered after sound rows.
 use Rattle.std.specs.Prelude.{option_and_then}
-use Rattle.std.proofs.Common.{◌≡◌, ℕ, ◌+◌, ◌≤◌, ◌==◌, ◌||◌, false, nat_lt, [], ◌∷◌, ◌++◌, Option, None, Some, refl, sym, ap, ◌∙◌, subst, arith, codes, unwrap_or}
+use Rattle.std.proofs.Common.{◌≡◌, ℕ, ◌≤◌, ◌==◌, ◌||◌, ◌+◌, true, false, length, nat_lt, [], ◌∷◌, ◌++◌, Option, None, Some, refl, sym, ap, ◌∙◌, subst, arith, codes, unwrap_or}
 use Rattle.std.proofs.lemmas.Bool.{cond_both}
 use Rattle.std.proofs.lemmas.Bool.Decides.{nat_tests}
 use Rattle.ph_charges.specs.Charges.{with_captured}
@@ -28,17 +28,26 @@ use Rattle.ph_rows.proofs.RowLemmas.{second_fails}
 use Rattle.ph_facts.proofs.HeldLemmas.{AllLeave, another_is_apart, held_known}
 use Rattle.ph_facts.proofs.OrderLemmas.{origins_stand}
 use Rattle.ph_facts.proofs.OriginLemmas.{have_begun-before}
+use Rattle.ph_facts.proofs.DoneLemmas.{wrong_value}
+use Rattle.ph_facts.specs.Shown.{ShowsIntent, shown_in, status_in}
+use Rattle.ph_facts.specs.Statuses.{may_put}
+use Rattle.ph_facts.specs.Touches.{Puts}
 use Rattle.ph_facts.proofs.UnderwayLemmas.{IsUnderway, underway_further, underway_told}
 use Rattle.ph_intents.specs.Capture.{capture_of, capture_outcome, capture_amount, received_intent, with_charge_captured}
-use Rattle.ph_intents.specs.Keeps.{AddsSound, IsReady, KeepsSound, batch_after, no_texts}
+use Rattle.ph_intents.specs.Keeps.{IsReady, KeepsRows, KeepsSound, MayBeAdded, batch_after, no_texts}
 use Rattle.ph_intents.specs.Refusals.{invalid_value}
 use Rattle.ph_intents.specs.Statuses.{next_status}
 use Rattle.ph_intents.specs.Versions.{adds_told, with_told}
 use Rattle.ph_intents.specs.declared.statuses.Step.TheVariants as step
 use Rattle.ph_intents.proofs.EnterLemmas.{begins, enters, last_version}
-use Rattle.ph_intents.proofs.FoundLemmas.{IsFound, found_texts, keeps_allowed, keeps_at}
+use Rattle.ph_intents.proofs.FoundLemmas.{IsFound, found_status, found_texts, keeps_allowed, keeps_at}
 use Rattle.ph_intents.proofs.HoldLemmas.{charge_row}
-use Rattle.ph_intents.proofs.StatusLemmas.{captured_step}
+use Rattle.ph_intents.proofs.StatusLemmas.{captured_step, may_capture}
+
+-- a batch of five rows and events that shows a payment intent in a status
+record IsSmall (batch : BatchState) (object : ℕ) (found : IntentStatus) : Type 0 where
+  few : length batch.rows + length batch.announced ≤ 5
+  shown : shown_in batch.rows ≡ ShowsIntent object found ∷ []
 
 -- a capture of a charge that holds a payment intent, of no more than can be captured
 captured_enters : (state : ViewState) (entry account : ℕ) (row : Row) (intent : Intent) (n : ℕ) (last : Row) (charge : Charge)
@@ -103,38 +112,53 @@ captured_enters state entry account row intent n last charge amount found ready 
       (tt, (λ same. differs (sym same), tt)),
     )
 
-pub capture_keeps : KeepsSound no_texts capture_outcome
+-- what a capture adds: two rows of the charge and an event, and the payment intent and an event
+captured_few : (state : ViewState) (entry account : ℕ) (row : Row) (intent : Intent) (n : ℕ) (last : Row) (charge : Charge)
+    (amount : ℕ) (found : IntentStatus) → latest_of n state.rows ≡ Some last → last.item ≡ item.Charge charge
+    → IsSmall (with_told account row.object (received_intent amount intent found) event.IntentSucceeded (with_charge_captured state.rows amount (Some n) (batch_after state entry))) row.object found
+captured_few state entry account row intent n last charge amount found latest is =
+    subst (λ (b : BatchState). IsSmall (with_told account row.object (received_intent amount intent found) event.IntentSucceeded b) row.object found)
+    (sym (sums.capture_is state.rows n amount (batch_after state entry) last charge refl latest is))
+    (record { few = omega arith; shown = refl })
+
+pub capture_keeps : KeepsSound no_texts 5 capture_outcome
 capture_keeps state entry account call ready texts =
-    keeps_at (capture_of state.rows account call.amount_to_capture (batch_after state entry)) state account call.id ready.sound
+    keeps_at 5 (capture_of state.rows account call.amount_to_capture (batch_after state entry)) state account call.id ready.sound
     (λ row intent found.
     let amount = unwrap_or call.amount_to_capture intent.amount_capturable in
-    keeps_allowed state (capture_amount state.rows account amount (batch_after state entry) row.object intent)
+    keeps_allowed state 5 (capture_amount state.rows account amount (batch_after state entry) row.object intent)
     (next_status intent.status step.Capture)
-    (λ status to. of_amount row intent found status amount (captured_step intent.status status to)))
+    (λ status to. of_amount row intent found status amount (captured_step intent.status status to)
+    (ap (λ old. may_put old status) (found_status state account row intent found) ∙ may_capture intent.status status to)))
   where
     of_charge : (row : Row) (intent : Intent) → IsFound state account row intent → (found : IntentStatus) (amount : ℕ)
         → amount ≤ intent.amount_capturable → status.Succeeded ≡ found → (latest : Option ℕ)
         → IsHeldBy row.object intent (option_and_then (charge_of state.rows) latest)
-        → MayBeEntered state (with_told account row.object (received_intent amount intent found) event.IntentSucceeded (with_charge_captured state.rows amount latest (batch_after state entry)))
+        → MayBeAdded state 5 (Puts row.object found) (with_told account row.object (received_intent amount intent found) event.IntentSucceeded (with_charge_captured state.rows amount latest (batch_after state entry)))
     of_charge row intent there found amount within succeeded None held = absurd held
     of_charge row intent there found amount within succeeded (Some n) held = at (charge_of state.rows n) refl held
       where
         at : (charge : Option Charge) → charge_of state.rows n ≡ charge → IsHeldBy row.object intent charge
-            → MayBeEntered state (with_told account row.object (received_intent amount intent found) event.IntentSucceeded (with_charge_captured state.rows amount (Some n) (batch_after state entry)))
+            → MayBeAdded state 5 (Puts row.object found) (with_told account row.object (received_intent amount intent found) event.IntentSucceeded (with_charge_captured state.rows amount (Some n) (batch_after state entry)))
         at None e held = absurd held
         at (Some charge) e held =
             let last = charge_row state.rows n charge e in
-            captured_enters state entry account row intent n last.row charge amount found ready there last.latest last.is held within succeeded
+            let small = captured_few state entry account row intent n last.row charge amount found last.latest last.is in record {
+              enters = captured_enters state entry account row intent n last.row charge amount found ready there last.latest last.is held within succeeded;
+              few = small.few;
+              shown = small.shown;
+            }
 
     of_amount : (row : Row) (intent : Intent) → IsFound state account row intent → (found : IntentStatus) (amount : ℕ)
         → (intent.status ≡ status.RequiresCapture) × (status.Succeeded ≡ found)
-        → AddsSound state (capture_amount state.rows account amount (batch_after state entry) row.object intent found)
-    of_amount row intent there found amount step =
+        → may_put (status_in state.rows row.object) found ≡ true
+        → KeepsRows state 5 (capture_amount state.rows account amount (batch_after state entry) row.object intent found)
+    of_amount row intent there found amount step may =
         let received = received_intent amount intent found in
         cond_both ((amount == 0) || nat_lt intent.amount_capturable amount) (invalid_value (codes "amount_to_capture"))
         (adds_told account row.object received event.IntentSucceeded (with_charge_captured state.rows amount intent.latest_charge (batch_after state entry)))
-        (AddsSound state) (λ out. tt)
+        (KeepsRows state 5) (λ out. wrong_value (codes "amount_to_capture"))
         (λ bounds.
         let no_more : nat_lt intent.amount_capturable amount ≡ false = second_fails (amount == 0) (nat_lt intent.amount_capturable amount) bounds in
-        of_charge row intent there found amount (grind (arith, nat_tests)) step.1 intent.latest_charge
-        (ready.sound.laws.held row.object row intent there.latest there.is step.0))
+        (of_charge row intent there found amount (grind (arith, nat_tests)) step.1 intent.latest_charge
+        (ready.sound.laws.held row.object row intent there.latest there.is step.0), may))

@@ -1,6 +1,6 @@
 -- What a call adds may be entered: a version of a payment intent, told or with an attempt.
 use Rattle.std.specs.Prelude.{option_and_then}
-use Rattle.std.proofs.Common.{◌≡◌, ℕ, ◌+◌, ◌≤◌, false, eqb, List, [], ◌∷◌, ◌++◌, None, Some, length, refl, sym, ap, ◌∙◌, arith}
+use Rattle.std.proofs.Common.{◌≡◌, ℕ, ◌+◌, ◌≤◌, true, false, eqb, List, [], ◌∷◌, ◌++◌, None, Some, length, refl, sym, ap, ◌∙◌, arith}
 use Rattle.std.specs.List.{list_any}
 use Rattle.std.proofs.lemmas.Bool.{cond-false, ne_eqb}
 use Rattle.std.proofs.lemmas.List.{append_assoc}
@@ -12,6 +12,7 @@ use Rattle.ph_rows.specs.declared.batches.Announced.{Announced}
 use Rattle.ph_items.specs.declared.event_kinds.EventKind.{EventKind}
 use Rattle.ph_items.specs.declared.event_kinds.EventKind.TheVariants as event
 use Rattle.ph_items.specs.declared.intents.Intent.{Intent}
+use Rattle.ph_items.specs.declared.intents.IntentStatus.{IntentStatus}
 use Rattle.ph_items.specs.declared.intents.IntentStatus.TheVariants as status
 use Rattle.ph_items.specs.declared.items.Item.{Item}
 use Rattle.ph_items.specs.declared.items.Item.TheVariants as item
@@ -27,13 +28,17 @@ use Rattle.ph_items.specs.Weights.{texts_of}
 use Rattle.ph_items.specs.Words.{subject_of}
 use Rattle.ph_rows.proofs.RowLemmas.{latest_of-last}
 use Rattle.ph_facts.proofs.HeldLemmas.{AllLeave, held_known, held_of_others}
-use Rattle.ph_facts.proofs.OrderLemmas.{order_with_all}
+use Rattle.ph_facts.proofs.DoneLemmas.{status_none}
+use Rattle.ph_facts.proofs.OrderLemmas.{latest_of-later, order_with_all}
+use Rattle.ph_facts.specs.Shown.{Shown, ShowsIntent, ShowsAttempt, status_in}
+use Rattle.ph_facts.specs.Statuses.{may_begin, may_put}
+use Rattle.ph_facts.specs.Touches.{Cause, Confirms}
 use Rattle.ph_facts.proofs.LawLemmas.{is_of_amounts, laws_held}
 use Rattle.ph_facts.proofs.OriginLemmas.{has_begun_origin}
 use Rattle.ph_facts.proofs.UnderwayLemmas.{IsUnderway, underway_first, underway_told}
 use Rattle.ph_intents.specs.Attempts.{attempted, new_attempt, with_attempt}
 use Rattle.ph_intents.specs.Create.{created_with}
-use Rattle.ph_intents.specs.Keeps.{AddsSound, AreUtf8, IsReady, batch_after}
+use Rattle.ph_intents.specs.Keeps.{AreUtf8, IsReady, KeepsRows, batch_after}
 use Rattle.ph_intents.specs.Versions.{adds_told, with_told, with_version}
 use Rattle.ph_intents.proofs.HoldLemmas.{Each, hold_stays}
 
@@ -110,13 +115,20 @@ version_enters state entry account object intent ready underway waits =
 -- and an event that tells of it
 pub told_enters : (state : ViewState) (entry account object : ℕ) (intent : Intent) (sort : EventKind) → IsReady state
     → IsUnderway state (with_version account object intent (batch_after state entry)) → kind.Intent ≡ subject_of sort
-    → Waits state object intent → AddsSound state (adds_told account object intent sort (batch_after state entry))
-told_enters state entry account object intent sort ready underway subject waits =
-    plain_enters state (with_told account object intent sort (batch_after state entry)) object
-    (version_row state entry account object intent) intent ready.sound
-    (underway_told state (batch_after state entry) object account (item.Intent intent) sort underway subject)
-    (last_version state.rows (batch_after state entry) object account (item.Intent intent)) refl refl
-    (λ other differs. (λ same. differs (sym same), tt)) (λ is. absurd (cc), tt) waits
+    → Waits state object intent → may_put (status_in state.rows object) intent.status ≡ true
+    → KeepsRows state 2 (adds_told account object intent sort (batch_after state entry))
+told_enters state entry account object intent sort ready underway subject waits may = (
+  record {
+    enters = plain_enters state (with_told account object intent sort (batch_after state entry)) object
+        (version_row state entry account object intent) intent ready.sound
+        (underway_told state (batch_after state entry) object account (item.Intent intent) sort underway subject)
+        (last_version state.rows (batch_after state entry) object account (item.Intent intent)) refl refl
+        (λ other differs. (λ same. differs (sym same), tt)) (λ is. absurd (cc), tt) waits;
+    few = omega arith;
+    shown = refl;
+  },
+  may,
+)
 
 -- a version of a payment intent in the batch of an entry, of which this was announced
 abbrev with_told_version : ViewState → ℕ → ℕ → ℕ → Intent → List Announced → BatchState
@@ -146,12 +158,25 @@ attempt_enters state entry account object intent how announced ready underway ea
     begun : Item
     begun = item.Attempt (new_attempt object intent.amount intent.currency how before)
 
+-- what the row of a new attempt shows behind one version of its payment intent
+abbrev shows_begun : ViewState → ℕ → ℕ → Intent → Method → List Shown
+shows_begun state entry object intent how =
+    let begun = new_attempt object intent.amount intent.currency how (with_version 0 object intent (batch_after state entry)) in
+    ShowsAttempt begun.order.reference object begun.order begun.state ∷ []
+
 -- a further version of a payment intent, and an attempt
-pub attempted_enters : (state : ViewState) (entry account object : ℕ) (intent : Intent) (how : Method) → IsReady state
+pub attempted_enters : (state : ViewState) (entry : ℕ) (cause : Cause) (account object : ℕ) (intent : Intent) (how : Method) → IsReady state
     → IsUnderway state (with_version account object intent (batch_after state entry)) → object ≤ length state.rows
-    → Waits state object intent → AddsSound state (attempted account object intent how (batch_after state entry))
-attempted_enters state entry account object intent how ready underway early waits =
-    attempt_enters state entry account object intent how [] ready underway (omega arith) waits
+    → Waits state object intent → intent.status ≡ status.Processing → may_begin cause (status_in state.rows object) ≡ true
+    → KeepsRows state 2 (attempted cause account object intent how (batch_after state entry))
+attempted_enters state entry cause account object intent how ready underway early waits runs may = (
+  record {
+    enters = attempt_enters state entry account object intent how [] ready underway (omega arith) waits;
+    few = omega arith;
+    shown = ap (λ (s : IntentStatus). ShowsIntent object s ∷ shows_begun state entry object intent how) runs;
+  },
+  (latest_of-later state (last_place (with_version account object intent (batch_after state entry)) + 1) ready.sound.order (omega arith), may),
+)
 
 -- the first version of a payment intent
 pub created_underway : (state : ViewState) (entry account : ℕ) (intent : Intent) → IsReady state
@@ -161,14 +186,27 @@ created_underway state entry account intent ready texts named =
     underway_first state (batch_after state entry) account (item.Intent intent) ready.sound.order (begins state entry)
     (let room = ready.room in omega arith) (record { texts = texts; within = tt; origins = named; silent = λ event is. absurd (cc) })
 
+-- which has no status before
+pub new_number : (state : ViewState) (entry : ℕ) → IsReady state → status_in state.rows (last_place (batch_after state entry) + 1) ≡ None
+new_number state entry ready =
+    status_none state.rows (last_place (batch_after state entry) + 1)
+    (latest_of-later state (last_place (batch_after state entry) + 1) ready.sound.order (omega arith))
+
 -- a new payment intent, its attempt, and the event that tells of it
 pub created_enters : (state : ViewState) (entry account : ℕ) (intent : Intent) (how : Method) → IsReady state
     → AreUtf8 (texts_of (item.Intent intent)) → HasOrigins (state.rows ++ []) (charge_named intent.latest_charge)
-    → Waits state (last_place (batch_after state entry) + 1) intent → AddsSound state (created_with account intent how (batch_after state entry))
-created_enters state entry account intent how ready texts named waits =
+    → Waits state (last_place (batch_after state entry) + 1) intent → intent.status ≡ status.Processing
+    → KeepsRows state 3 (created_with account intent how (batch_after state entry))
+created_enters state entry account intent how ready texts named waits runs =
     let batch = batch_after state entry in
-    let object = last_place batch + 1 in
-    attempt_enters state entry account object intent how (record { sort = event.IntentCreated; object = object } ∷ []) ready
-    (underway_told state batch object account (item.Intent intent) event.IntentCreated
-    (created_underway state entry account intent ready texts named) refl)
-    (omega arith) waits
+    let object = last_place batch + 1 in (
+      record {
+        enters = attempt_enters state entry account object intent how (record { sort = event.IntentCreated; object = object } ∷ []) ready
+            (underway_told state batch object account (item.Intent intent) event.IntentCreated
+            (created_underway state entry account intent ready texts named) refl)
+            (omega arith) waits;
+        few = omega arith;
+        shown = ap (λ (s : IntentStatus). ShowsIntent object s ∷ shows_begun state entry object intent how) runs;
+      },
+      (latest_of-later state (last_place (with_version account object intent batch) + 1) ready.sound.order (omega arith), ap (may_begin Confirms) (new_number state entry ready)),
+    )

@@ -1,6 +1,6 @@
 -- A payment intent that is found among sound rows, and what an operation on it may add.
 use Rattle.std.specs.Prelude.{option_and_then}
-use Rattle.std.proofs.Common.{◌≡◌, ℕ, ◌+◌, ◌≤◌, List, [], ◌++◌, Option, None, Some, length, refl, sym, ap, ◌∙◌, subst, arith}
+use Rattle.std.proofs.Common.{◌≡◌, ℕ, ◌+◌, ◌≤◌, ◌∙◌, true, codes, List, [], ◌++◌, Option, None, Some, length, refl, sym, ap, subst, arith}
 use Rattle.ph_base.specs.declared.acquirer.Method.{Method}
 use Rattle.ph_base.specs.declared.ids.Kind.TheVariants as kind
 use Rattle.ph_facts.specs.Outcomes.{Outcome}
@@ -22,13 +22,17 @@ use Rattle.ph_facts.specs.Sound.{IsSound}
 use Rattle.ph_rows.specs.Views.{ViewState}
 use Rattle.ph_items.specs.Weights.{texts_of}
 use Rattle.ph_items.specs.Words.{subject_of}
+use Rattle.ph_facts.proofs.DoneLemmas.{no_object, status_found, wrong_state}
 use Rattle.ph_facts.proofs.FoundLemmas.{owned_found}
+use Rattle.ph_facts.specs.Shown.{status_in}
+use Rattle.ph_facts.specs.Statuses.{may_begin, may_put}
+use Rattle.ph_facts.specs.Touches.{Cause}
 use Rattle.ph_rows.proofs.RowLemmas.{row_at_within}
 use Rattle.ph_facts.proofs.OrderLemmas.{origins_stand}
 use Rattle.ph_facts.proofs.OriginLemmas.{have_begun-before}
 use Rattle.ph_facts.proofs.UnderwayLemmas.{IsUnderway, underway_further}
 use Rattle.ph_intents.specs.Attempts.{attempted}
-use Rattle.ph_intents.specs.Keeps.{AddsSound, AreUtf8, IsReady, batch_after}
+use Rattle.ph_intents.specs.Keeps.{AreUtf8, IsReady, KeepsRows, batch_after}
 use Rattle.ph_intents.specs.Refusals.{made_of, made_of_row, made_at, if_allowed}
 use Rattle.ph_intents.specs.Versions.{adds_told, with_version}
 use Rattle.ph_intents.proofs.EnterLemmas.{Waits, attempted_enters, begins, told_enters}
@@ -41,37 +45,42 @@ pub record IsFound (state : ViewState) (account : ℕ) (row : Row) (intent : Int
   pub is : row.item ≡ item.Intent intent
 
 -- an operation on the payment intent of a path: what it makes of one that is found is what counts
-pub keeps_at : (operation : ℕ → Intent → Outcome) (state : ViewState) (account : ℕ) (text : List ℕ) → IsSound state
-    → ((row : Row) (intent : Intent) → IsFound state account row intent → AddsSound state (operation row.object intent))
-    → AddsSound state (made_at operation state.rows account text)
-keeps_at operation state account text sound keeps = at (owned_named state.rows account kind.Intent text) refl
+pub keeps_at : (most : ℕ) (operation : ℕ → Intent → Outcome) (state : ViewState) (account : ℕ) (text : List ℕ) → IsSound state
+    → ((row : Row) (intent : Intent) → IsFound state account row intent → KeepsRows state most (operation row.object intent))
+    → KeepsRows state most (made_at operation state.rows account text)
+keeps_at most operation state account text sound keeps = at (owned_named state.rows account kind.Intent text) refl
   where
     item_is : (row : Row) → row_at row.place state.rows ≡ Some row → latest_of row.object state.rows ≡ Some row
         → row.account ≡ account → (content : Item) → row.item ≡ content
-        → AddsSound state (made_of (operation row.object) (intent_in content))
-    item_is row stands latest owner (item.Account other) is = tt
+        → KeepsRows state most (made_of (operation row.object) (intent_in content))
+    item_is row stands latest owner (item.Account other) is = no_object (codes "id")
     item_is row stands latest owner (item.Intent intent) is =
         keeps row intent (record { stands = stands; latest = latest; owner = owner; is = is })
-    item_is row stands latest owner (item.Attempt attempt) is = tt
-    item_is row stands latest owner (item.Charge charge) is = tt
-    item_is row stands latest owner (item.Refund refund) is = tt
-    item_is row stands latest owner (item.Dispute dispute) is = tt
-    item_is row stands latest owner (item.Txn txn) is = tt
-    item_is row stands latest owner (item.Event event) is = tt
+    item_is row stands latest owner (item.Attempt attempt) is = no_object (codes "id")
+    item_is row stands latest owner (item.Charge charge) is = no_object (codes "id")
+    item_is row stands latest owner (item.Refund refund) is = no_object (codes "id")
+    item_is row stands latest owner (item.Dispute dispute) is = no_object (codes "id")
+    item_is row stands latest owner (item.Txn txn) is = no_object (codes "id")
+    item_is row stands latest owner (item.Event event) is = no_object (codes "id")
 
     at : (found : Option Row) → owned_named state.rows account kind.Intent text ≡ found
-        → AddsSound state (made_of_row operation found)
-    at None e = tt
+        → KeepsRows state most (made_of_row operation found)
+    at None e = no_object (codes "id")
     at (Some row) e =
         let there = owned_found state account kind.Intent text row sound e in
         item_is row there.0.stands there.0.latest there.1 row.item refl
 
 -- a status that is allowed is what counts
-pub keeps_allowed : (state : ViewState) (further : IntentStatus → Outcome) (found : Option IntentStatus)
-    → ((status : IntentStatus) → found ≡ Some status → AddsSound state (further status))
-    → AddsSound state (if_allowed further found)
-keeps_allowed state further None keeps = tt
-keeps_allowed state further (Some status) keeps = keeps status refl
+pub keeps_allowed : (state : ViewState) (most : ℕ) (further : IntentStatus → Outcome) (found : Option IntentStatus)
+    → ((status : IntentStatus) → found ≡ Some status → KeepsRows state most (further status))
+    → KeepsRows state most (if_allowed further found)
+keeps_allowed state most further None keeps = wrong_state
+keeps_allowed state most further (Some status) keeps = keeps status refl
+
+-- its status is that of its present version
+pub found_status : (state : ViewState) (account : ℕ) (row : Row) (intent : Intent) → IsFound state account row intent
+    → status_in state.rows row.object ≡ Some intent.status
+found_status state account row intent found = status_found state.rows row.object row intent found.latest found.is
 
 -- the texts of a payment intent that is found
 pub found_texts : (state : ViewState) (account : ℕ) (row : Row) (intent : Intent) → IsSound state
@@ -134,18 +143,21 @@ found_underway state entry account row old new ready found texts same =
 -- it may be entered with an event that tells of it
 pub found_told : (state : ViewState) (entry account : ℕ) (row : Row) (old new : Intent) (sort : EventKind) → IsReady state
     → IsFound state account row old → kind.Intent ≡ subject_of sort → AreUtf8 (texts_of (item.Intent new)) → Passes old new
-    → AddsSound state (adds_told account row.object new sort (batch_after state entry))
-found_told state entry account row old new sort ready found subject texts passes =
+    → may_put (Some old.status) new.status ≡ true → KeepsRows state 2 (adds_told account row.object new sort (batch_after state entry))
+found_told state entry account row old new sort ready found subject texts passes may =
     told_enters state entry account row.object new sort ready
     (found_underway state entry account row old new ready found texts passes.charge) subject
     (found_waits state account row old new ready.sound found passes)
+    (ap (λ status. may_put status new.status) (found_status state account row old found) ∙ may)
 
 -- and with an attempt
-pub found_attempted : (state : ViewState) (entry account : ℕ) (row : Row) (old new : Intent) (how : Method) → IsReady state
+pub found_attempted : (state : ViewState) (entry : ℕ) (cause : Cause) (account : ℕ) (row : Row) (old new : Intent) (how : Method) → IsReady state
     → IsFound state account row old → AreUtf8 (texts_of (item.Intent new)) → Passes old new
-    → AddsSound state (attempted account row.object new how (batch_after state entry))
-found_attempted state entry account row old new how ready found texts passes =
-    attempted_enters state entry account row.object new how ready
+    → may_begin cause (Some old.status) ≡ true → new.status ≡ status.Processing
+    → KeepsRows state 2 (attempted cause account row.object new how (batch_after state entry))
+found_attempted state entry cause account row old new how ready found texts passes may runs =
+    attempted_enters state entry cause account row.object new how ready
     (found_underway state entry account row old new ready found texts passes.charge)
     (found_within state account row old ready.sound found)
     (found_waits state account row old new ready.sound found passes)
+    runs (ap (may_begin cause) (found_status state account row old found) ∙ may)

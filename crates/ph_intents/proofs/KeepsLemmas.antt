@@ -1,7 +1,7 @@
 -- What each call adds may be entered after sound rows.
-use Rattle.std.proofs.Common.{◌≡◌, ℕ, ◌+◌, cond, nat_lt, List, [], Option, None, Some, length, refl, codes, arith}
+use Rattle.std.proofs.Common.{◌≡◌, ℕ, ◌+◌, ◌||◌, ◌∙◌, ap, true, cond, nat_lt, List, [], Option, None, Some, length, refl, codes, arith}
 use Rattle.std.proofs.lemmas.Bool.{cond_both}
-use Rattle.std.specs.Option.{option_or}
+use Rattle.std.specs.Option.{is_some, option_or}
 use Rattle.ph_base.specs.declared.acquirer.Method.TheVariants as method
 use Rattle.ph_facts.specs.Outcomes.{Refuses, Adds}
 use Rattle.ph_calls.specs.declared.call.CreateIntent.{CreateIntent}
@@ -18,24 +18,28 @@ use Rattle.ph_items.specs.declared.intents.PaymentError.TheVariants as payment_e
 use Rattle.ph_items.specs.declared.items.Item.TheVariants as item
 use Rattle.ph_items.specs.declared.payment_methods.PaymentMethod.{PaymentMethod}
 use Rattle.ph_rows.specs.Batches.{last_place}
+use Rattle.ph_facts.proofs.DoneLemmas.{none_given, too_small, wrong_state, wrong_value}
 use Rattle.ph_facts.proofs.UnderwayLemmas.{IsUnderway}
+use Rattle.ph_facts.specs.Keeps.{MayBeDone}
+use Rattle.ph_facts.specs.Statuses.{may_put}
+use Rattle.ph_facts.specs.Touches.{Authenticates, Confirms}
 use Rattle.ph_items.specs.Weights.{with_text, method_text, metadata_texts, texts_of}
 use Rattle.ph_intents.specs.Attempts.{attempted}
 use Rattle.ph_intents.specs.Authenticate.{authenticate_of, authenticate_outcome, authenticated_intent, fail_of, fail_authentication_outcome, failed_intent}
 use Rattle.ph_intents.specs.Cancel.{cancel_of, cancel_outcome, canceled_intent}
 use Rattle.ph_intents.specs.Confirm.{confirm_of, confirm_with, confirm_outcome, paying_intent}
 use Rattle.ph_intents.specs.Create.{new_intent, first_status, create_outcome, create_by, create_confirmed_outcome}
-use Rattle.ph_intents.specs.Keeps.{AddsSound, AreUtf8, KeepsSound, batch_after, create_texts, update_texts, confirm_texts, no_texts}
+use Rattle.ph_intents.specs.Keeps.{AreUtf8, KeepsRows, KeepsSound, batch_after, create_texts, update_texts, confirm_texts, no_texts}
 use Rattle.ph_kinds.specs.Kept.{first_metadata, named_texts}
 use Rattle.ph_kinds.proofs.KeptLemmas.{first_kept}
 use Rattle.ph_intents.specs.Refusals.{invalid_value}
 use Rattle.ph_intents.specs.Statuses.{next_status}
-use Rattle.ph_intents.specs.Update.{most_keys, step_of, update_with, update_of, updated_intent, update_outcome}
+use Rattle.ph_intents.specs.Update.{led, most_keys, step_of, update_with, update_of, updated_intent, update_outcome}
 use Rattle.ph_intents.specs.Versions.{with_version, adds_told}
 use Rattle.ph_intents.specs.declared.statuses.Step.TheVariants as step
-use Rattle.ph_intents.proofs.EnterLemmas.{Waits, created_underway, created_enters, told_enters, version_enters}
-use Rattle.ph_intents.proofs.FoundLemmas.{IsFound, keeps_at, keeps_allowed, found_attempted, found_underway, found_texts, found_told, found_waits}
-use Rattle.ph_intents.proofs.StatusLemmas.{canceled_waits, waited_before}
+use Rattle.ph_intents.proofs.EnterLemmas.{Waits, created_underway, created_enters, new_number, told_enters, version_enters}
+use Rattle.ph_intents.proofs.FoundLemmas.{IsFound, found_status, keeps_at, keeps_allowed, found_attempted, found_underway, found_texts, found_told, found_waits}
+use Rattle.ph_intents.proofs.StatusLemmas.{canceled_waits, may_authenticate, may_cancel, may_confirm, may_fail, may_update, shows_led, waited_before}
 use Rattle.ph_intents.proofs.TextLemmas.{front_text, with_front, either_text, either_method, merged_kept}
 
 -- the texts of a payment intent behind the name of its payment method
@@ -64,50 +68,58 @@ never_waits : (method : Option PaymentMethod) → first_status method ≡ status
 never_waits None waits = cc
 never_waits (Some method) waits = cc
 
-pub create_keeps : KeepsSound create_texts create_outcome
+-- and is put where a new one may be
+first_may : (method : Option PaymentMethod) → may_put None (first_status method) ≡ true
+first_may None = refl
+first_may (Some method) = refl
+
+pub create_keeps : KeepsSound create_texts 2 create_outcome
 create_keeps state entry account call ready texts =
     let intent = new_intent call (first_status call.payment_method) in
     let kept = new_texts call (first_status call.payment_method) texts in
     told_enters state entry account (last_place (batch_after state entry) + 1) intent event.IntentCreated ready
     (created_underway state entry account intent ready kept tt) refl
     (λ waits. absurd (never_waits call.payment_method waits))
+    (ap (λ old. may_put old intent.status) (new_number state entry ready) ∙ first_may call.payment_method)
 
-pub create_confirmed_keeps : KeepsSound create_texts create_confirmed_outcome
+pub create_confirmed_keeps : KeepsSound create_texts 3 create_confirmed_outcome
 create_confirmed_keeps state entry account call ready texts = at call.payment_method
   where
     at : (method : Option PaymentMethod)
-        → AddsSound state (create_by account call (batch_after state entry) method)
-    at None = tt
+        → KeepsRows state 3 (create_by account call (batch_after state entry) method)
+    at None = none_given (codes "payment_method")
     at (Some method) =
         created_enters state entry account (new_intent call status.Processing) method.method ready
-        (new_texts call status.Processing texts) tt (λ waits. absurd (cc))
+        (new_texts call status.Processing texts) tt (λ waits. absurd (cc)) refl
 
 -- ---- the calls that change a payment intent, its texts as they were
 
-pub cancel_keeps : KeepsSound no_texts cancel_outcome
+pub cancel_keeps : KeepsSound no_texts 2 cancel_outcome
 cancel_keeps state entry account call ready texts =
     let batch = batch_after state entry in
     let reason = call.cancellation_reason in
-    keeps_at (cancel_of account reason batch) state account call.id ready.sound
+    keeps_at 2 (cancel_of account reason batch) state account call.id ready.sound
     (λ row intent found.
     let kept = found_texts state account row intent ready.sound found in
     let canceled = canceled_intent reason intent in
-    keeps_allowed state (λ status. adds_told account row.object (canceled status) event.IntentCanceled batch)
+    keeps_allowed state 2 (λ status. adds_told account row.object (canceled status) event.IntentCanceled batch)
     (next_status intent.status step.Cancel)
     (λ status to. found_told state entry account row intent (canceled status) event.IntentCanceled ready found refl kept
-    (record { charge = refl; amount = λ here. absurd (canceled_waits intent.status status to here); waits = waited_before intent.status step.Cancel status to })))
+    (record { charge = refl; amount = λ here. absurd (canceled_waits intent.status status to here); waits = waited_before intent.status step.Cancel status to })
+    (may_cancel intent.status status to)))
 
-pub authenticate_keeps : KeepsSound no_texts authenticate_outcome
+pub authenticate_keeps : KeepsSound no_texts 2 authenticate_outcome
 authenticate_keeps state entry account call ready texts =
     let batch = batch_after state entry in
-    keeps_at (authenticate_of account batch) state account call.id ready.sound
+    keeps_at 2 (authenticate_of account batch) state account call.id ready.sound
     (λ row intent found.
     let kept = found_texts state account row intent ready.sound found in
     let paying = authenticated_intent intent in
-    keeps_allowed state (λ status. attempted account row.object (paying status) method.Authenticated batch)
+    keeps_allowed state 2 (λ status. attempted Authenticates account row.object (paying status) method.Authenticated batch)
     (next_status intent.status step.Authenticate)
-    (λ status to. found_attempted state entry account row intent (paying status) method.Authenticated ready found kept
-    (record { charge = refl; amount = λ here. refl; waits = waited_before intent.status step.Authenticate status to })))
+    (λ status to. found_attempted state entry Authenticates account row intent (paying status) method.Authenticated ready found kept
+    (record { charge = refl; amount = λ here. refl; waits = waited_before intent.status step.Authenticate status to })
+    (may_authenticate intent.status status to).0 (may_authenticate intent.status status to).1))
 
 -- ---- the calls that change its texts
 
@@ -116,19 +128,20 @@ pub failed_texts : (intent : Intent) (error : PaymentError) (status : IntentStat
     → AreUtf8 (texts_of (item.Intent intent)) → AreUtf8 (texts_of (item.Intent (failed_intent error intent status)))
 failed_texts intent error status texts = (front_text (method_text intent.payment_method) (other_texts intent) texts).1
 
-pub fail_authentication_keeps : KeepsSound no_texts fail_authentication_outcome
+pub fail_authentication_keeps : KeepsSound no_texts 2 fail_authentication_outcome
 fail_authentication_keeps state entry account call ready texts =
     let batch = batch_after state entry in
-    keeps_at (fail_of account batch) state account call.id ready.sound
+    keeps_at 2 (fail_of account batch) state account call.id ready.sound
     (λ row intent found.
     let kept = found_texts state account row intent ready.sound found in
     let failed = failed_intent payment_error.NotAuthenticated intent in
     let sort = event.IntentPaymentFailed in
-    keeps_allowed state (λ status. adds_told account row.object (failed status) sort batch)
+    keeps_allowed state 2 (λ status. adds_told account row.object (failed status) sort batch)
     (next_status intent.status step.Fail)
     (λ status to. found_told state entry account row intent (failed status) sort ready found refl
     (failed_texts intent payment_error.NotAuthenticated status kept)
-    (record { charge = refl; amount = λ here. refl; waits = waited_before intent.status step.Fail status to })))
+    (record { charge = refl; amount = λ here. refl; waits = waited_before intent.status step.Fail status to })
+    (may_fail intent.status status to)))
 
 -- the texts of a payment intent that a payment method is to pay
 paying_texts : (intent : Intent) (method : PaymentMethod) (status : IntentStatus)
@@ -138,9 +151,9 @@ paying_texts intent method status named texts =
     with_front (Some method.text) (other_texts intent) named
     (front_text (method_text intent.payment_method) (other_texts intent) texts).1
 
-pub confirm_keeps : KeepsSound confirm_texts confirm_outcome
+pub confirm_keeps : KeepsSound confirm_texts 2 confirm_outcome
 confirm_keeps state entry account call ready texts =
-    keeps_at (confirm_of account call.payment_method (batch_after state entry)) state account call.id ready.sound
+    keeps_at 2 (confirm_of account call.payment_method (batch_after state entry)) state account call.id ready.sound
     (λ row intent found.
     let kept = found_texts state account row intent ready.sound found in
     let own = (front_text (method_text intent.payment_method) (other_texts intent) kept).0 in
@@ -149,16 +162,17 @@ confirm_keeps state entry account call ready texts =
   where
     with_method : (row : Row) (intent : Intent) → IsFound state account row intent → AreUtf8 (texts_of (item.Intent intent))
         → (method : Option PaymentMethod) → AreUtf8 (with_text (method_text method) [])
-        → AddsSound state (confirm_with account (batch_after state entry) row.object intent method)
-    with_method row intent found kept None named = tt
+        → KeepsRows state 2 (confirm_with account (batch_after state entry) row.object intent method)
+    with_method row intent found kept None named = wrong_state
     with_method row intent found kept (Some method) named =
         let paying = paying_intent method intent in
-        keeps_allowed state
-        (λ status. attempted account row.object (paying status) method.method (batch_after state entry))
+        keeps_allowed state 2
+        (λ status. attempted Confirms account row.object (paying status) method.method (batch_after state entry))
         (next_status intent.status step.Confirm)
-        (λ status to. found_attempted state entry account row intent (paying status) method.method ready found
+        (λ status to. found_attempted state entry Confirms account row intent (paying status) method.method ready found
         (paying_texts intent method status named kept)
-        (record { charge = refl; amount = λ here. refl; waits = waited_before intent.status step.Confirm status to }))
+        (record { charge = refl; amount = λ here. refl; waits = waited_before intent.status step.Confirm status to })
+        (may_confirm intent.status status to).0 (may_confirm intent.status status to).1)
 
 -- the texts of a payment intent after an update
 updated_texts : (call : UpdateIntent) (intent : Intent) (status : IntentStatus) → AreUtf8 (update_texts call)
@@ -181,27 +195,37 @@ updated_texts call intent status texts kept =
     (with_front new.transfer_group pairs (either_text call.transfer_group intent.transfer_group three.0 old_three.0)
     (merged_kept call.metadata intent.metadata three.1 old_three.1)))
 
-pub update_keeps : KeepsSound update_texts update_outcome
+pub update_keeps : KeepsSound update_texts 1 update_outcome
 update_keeps state entry account call ready texts =
     let batch = batch_after state entry in
-    keeps_at (update_of account call batch) state account call.id ready.sound
+    keeps_at 1 (update_of account call batch) state account call.id ready.sound
     (λ row intent found.
     let kept = found_texts state account row intent ready.sound found in
     let updated = updated_intent call intent in
-    keeps_allowed state (λ status. update_with account batch row.object (updated status))
+    keeps_allowed state 1 (λ status. update_with account batch row.object intent.status (updated status))
     (next_status intent.status (step_of call))
-    (λ status to. with_updated row.object (updated status)
+    (λ status to. with_updated row.object intent.status (updated status)
     (found_underway state entry account row intent (updated status) ready found (updated_texts call intent status texts kept) refl)
     (found_waits state account row intent (updated status) ready.sound found
-    (record { charge = refl; amount = λ here. refl; waits = waited_before intent.status (step_of call) status to }))))
+    (record { charge = refl; amount = λ here. refl; waits = waited_before intent.status (step_of call) status to }))
+    (may_update state.rows row.object intent.status status (is_some call.payment_method)
+    (is_some call.amount || is_some call.currency || is_some call.transfer_group) (found_status state account row intent found) to)))
   where
-    with_updated : (object : ℕ) (intent : Intent) → IsUnderway state (with_version account object intent (batch_after state entry))
-        → Waits state object intent → AddsSound state (update_with account (batch_after state entry) object intent)
-    with_updated object intent underway waits =
+    with_updated : (object : ℕ) (old : IntentStatus) (intent : Intent) → IsUnderway state (with_version account object intent (batch_after state entry))
+        → Waits state object intent → MayBeDone state.rows (led object old intent.status)
+        → KeepsRows state 1 (update_with account (batch_after state entry) object old intent)
+    with_updated object old intent underway waits may =
         let keys = nat_lt most_keys (length intent.metadata) in
-        let adds = Adds object (with_version account object intent (batch_after state entry)) in
+        let adds = Adds (led object old intent.status) object (with_version account object intent (batch_after state entry)) in
         let many = invalid_value (codes "metadata") in
         cond_both (nat_lt intent.amount (terms_of intent.currency).minimum) (Refuses (error_of AmountTooSmall))
-        (cond keys many adds) (AddsSound state) (λ small. tt)
-        (λ enough. cond_both keys many adds (AddsSound state) (λ above. tt)
-        (λ within. version_enters state entry account object intent ready underway waits))
+        (cond keys many adds) (KeepsRows state 1) (λ small. too_small)
+        (λ enough. cond_both keys many adds (KeepsRows state 1) (λ above. wrong_value (codes "metadata"))
+        (λ within. (
+          record {
+            enters = version_enters state entry account object intent ready underway waits;
+            few = omega arith;
+            shown = shows_led object old intent.status;
+          },
+          may,
+        )))

@@ -20,7 +20,13 @@ use Rattle.ph_items.specs.declared.event_kinds.EventKind.TheVariants as event
 use Rattle.ph_items.specs.declared.intents.CaptureMethod.{CaptureMethod}
 use Rattle.ph_items.specs.declared.intents.CaptureMethod.TheVariants as capture_method
 use Rattle.ph_items.specs.declared.intents.Intent.{Intent}
+use Rattle.ph_items.specs.declared.attempts.AttemptState.{AttemptState}
+use Rattle.ph_items.specs.declared.attempts.AttemptState.TheVariants as attempt_state
+use Rattle.ph_items.specs.declared.intents.IntentStatus.{IntentStatus}
 use Rattle.ph_items.specs.declared.intents.IntentStatus.TheVariants as status
+use Rattle.ph_items.specs.declared.orders.Order.{Order}
+use Rattle.ph_facts.specs.Shown.{ShowsAttempt, ShowsIntent}
+use Rattle.ph_facts.specs.Touches.{Touch, Settles}
 use Rattle.ph_items.specs.declared.intents.PaymentError.TheVariants as payment_error
 use Rattle.ph_items.specs.declared.items.Item.{Item}
 use Rattle.ph_items.specs.declared.items.Item.TheVariants as item
@@ -42,17 +48,19 @@ use Rattle.ph_facts.proofs.LawLemmas.{is_of_amounts, laws_held}
 use Rattle.ph_facts.proofs.OrderLemmas.{origin_stands, origins_stand, texts_stand}
 use Rattle.ph_facts.proofs.OriginLemmas.{has_begun_origin, has_begun_still, have_begun-before}
 use Rattle.ph_facts.proofs.UnderwayLemmas.{IsUnderway, underway_further, underway_told}
-use Rattle.ph_intents.specs.Keeps.{AddsSound, AreUtf8, IsReady, SettleKeepsSound, batch_after}
-use Rattle.ph_intents.specs.Settle.{settled_attempt, approved_intent, approved_event, settled_intent, settle_both, settle_intent, settle_attempt, settle_row, with_latest_charge, with_settled}
+use Rattle.ph_intents.specs.Keeps.{AreUtf8, IsDone, IsReady, MayBeAdded, SettleKeepsSound, batch_after}
+use Rattle.ph_intents.specs.Settle.{settled_attempt, approved_intent, approved_event, settled_intent, settle_both, settle_intent, settle_attempt, settle_outcome, settle_row, with_latest_charge, with_ruling, with_settled}
 use Rattle.ph_intents.specs.Versions.{with_told}
 use Rattle.ph_intents.proofs.HoldLemmas.{each_begun}
 use Rattle.ph_intents.proofs.EnterLemmas.{begins, enters, last_version, other_version}
 use Rattle.ph_intents.proofs.KeepsLemmas.{failed_texts}
 
--- a row that stands is this version of an attempt
-record IsAttempt (state : ViewState) (row : Row) (attempt : Attempt) : Type 0 where
+-- a row that stands is this version of an attempt of a payment intent, under its number
+record IsAttempt (state : ViewState) (row : Row) (attempt : Attempt) (object : ℕ) : Type 0 where
   pub stands : row_at row.place state.rows ≡ Some row
   pub is : row.item ≡ item.Attempt attempt
+  pub named : row.object ≡ attempt.order.reference
+  pub of : attempt.intent ≡ object
 
 -- a row that stands is this version of a payment intent
 record IsIntent (state : ViewState) (row : Row) (intent : Intent) : Type 0 where
@@ -98,7 +106,7 @@ ruled_enters state row old new sort batch ready there ruled texts subject named 
 
 -- the batch with the version of an attempt after a ruling
 settled_ruled : (state : ViewState) (entry : ℕ) (how : Ruling) (row : Row) (attempt : Attempt) (object : ℕ) → IsReady state
-    → IsAttempt state row attempt → IsRuled state object (with_settled how row attempt (batch_after state entry))
+    → IsAttempt state row attempt object → IsRuled state object (with_settled how row attempt (batch_after state entry))
 settled_ruled state entry how row attempt object ready stood = record {
   underway = underway_further state (batch_after state entry) row (item.Attempt (settled_attempt how attempt)) ready.sound.order
       (begins state entry) stood.stands (let room = ready.room in omega arith)
@@ -115,8 +123,9 @@ settled_ruled state entry how row attempt object ready stood = record {
 
 -- what a ruling makes of an attempt and its payment intent
 settled_enters : (state : ViewState) (entry : ℕ) (how : Ruling) (row intent_row : Row) (attempt : Attempt) (intent : Intent)
-    → IsReady state → IsAttempt state row attempt → IsIntent state intent_row intent
-    → AddsSound state (settle_both how row attempt intent_row (batch_after state entry) (Some intent))
+    → IsReady state → IsAttempt state row attempt intent_row.object → IsIntent state intent_row intent
+    → MayBeAdded state 6 (Settles intent_row.object attempt.order intent.capture_method how)
+    (with_ruling how intent_row.account intent_row.object intent (with_settled how row attempt (batch_after state entry)))
 settled_enters state entry how row intent_row attempt intent ready stood there = ruled how
   where
     object : ℕ
@@ -238,16 +247,35 @@ settled_enters state entry how row intent_row attempt intent ready stood there =
         (keeps_by capture_method.Manual e (version new held ∷ []) refl)
         (λ here. subst (IsHeldBy object new) (sym known) (record { sort = refl; amount = omega arith; nothing = refl }))
 
+    -- what the rows show
+    shows_both : (at : AttemptState) (found : IntentStatus) → ShowsAttempt row.object attempt.intent attempt.order at ∷ ShowsIntent object found ∷ []
+        ≡ ShowsAttempt attempt.order.reference object attempt.order at ∷ ShowsIntent object found ∷ []
+    shows_both at found =
+        ap (λ n. ShowsAttempt n attempt.intent attempt.order at ∷ ShowsIntent object found ∷ []) stood.named
+        ∙ ap (λ n. ShowsAttempt attempt.order.reference n attempt.order at ∷ ShowsIntent object found ∷ []) stood.of
+
     ruled : (how : Ruling)
-        → AddsSound state (settle_both how row attempt intent_row (batch_after state entry) (Some intent))
-    ruled ruling.Approved = approved intent.capture_method refl
+        → MayBeAdded state 6 (Settles object attempt.order intent.capture_method how) (with_ruling how account object intent (before how))
+    ruled ruling.Approved = added intent.capture_method refl
+      where
+        added : (capture : CaptureMethod) → intent.capture_method ≡ capture
+            → MayBeAdded state 6 (Settles object attempt.order capture ruling.Approved)
+            (with_told account object (with_latest_charge (Some number) (approved_intent capture intent)) (approved_event capture) (approved_is capture))
+        added capture_method.Automatic e =
+            record { enters = approved capture_method.Automatic e; few = omega arith; shown = shows_both attempt_state.Approved status.Succeeded }
+        added capture_method.AutomaticAsync e =
+            record { enters = approved capture_method.AutomaticAsync e; few = omega arith; shown = shows_both attempt_state.Approved status.Succeeded }
+        added capture_method.Manual e =
+            record { enters = approved capture_method.Manual e; few = omega arith; shown = shows_both attempt_state.Approved status.RequiresCapture }
     ruled (ruling.Declined decline) =
         let batch = decline_of account object intent (before (ruling.Declined decline)) in
         let new = settled_intent (ruling.Declined decline) (Some number) intent in
         let underway = decline_underway state (before (ruling.Declined decline)) account object intent ready.sound.order
         (begun (ruling.Declined decline)).underway (omega arith) texts (paid (before (ruling.Declined decline))) in
-        let failed = next_row (before (ruling.Declined decline)) number account (item.Charge (new_charge object intent charge_status.Failed)) in
-        ruled_enters state intent_row intent new event.IntentPaymentFailed batch ready there
+        let failed = next_row (before (ruling.Declined decline)) number account (item.Charge (new_charge object intent charge_status.Failed)) in record {
+          few = omega arith;
+          shown = shows_both attempt_state.Declined status.RequiresPaymentMethod;
+          enters = ruled_enters state intent_row intent new event.IntentPaymentFailed batch ready there
         (record {
           underway = underway;
           few = omega arith;
@@ -255,61 +283,57 @@ settled_enters state entry how row intent_row attempt intent ready stood there =
         }) (failed_texts intent (payment_error.Declined decline) status.RequiresPaymentMethod texts) refl
         (has_begun_origin _ failed (each_begun state batch.rows underway.continues.follow).1.0, tt)
         (decline_keeps state account object intent (before (ruling.Declined decline)) (version new batch ∷ []) ready.sound refl refl refl)
-        (λ here. absurd (cc))
+        (λ here. absurd (cc));
+        }
     ruled ruling.Challenge =
         let batch = before ruling.Challenge in
-        let new = settled_intent ruling.Challenge intent.latest_charge intent in
-        ruled_enters state intent_row intent new event.IntentRequiresAction batch ready there (begun ruling.Challenge) texts refl (before_it batch)
+        let new = settled_intent ruling.Challenge intent.latest_charge intent in record {
+          few = omega arith;
+          shown = shows_both attempt_state.Challenged status.RequiresAction;
+          enters = ruled_enters state intent_row intent new event.IntentRequiresAction batch ready there (begun ruling.Challenge) texts refl (before_it batch)
         (laws_held state.rows (batch.rows ++ version new batch ∷ []) refl ready.sound.laws)
-        (λ here. absurd (cc))
+        (λ here. absurd (cc));
+        }
 
--- nothing may be entered
-nothing_enters : (state : ViewState) (entry : ℕ) → IsSound state → MayBeEntered state (batch_after state entry)
-nothing_enters state entry sound = record {
-  began = refl;
-  at = refl;
-  follow = tt;
-  laws = subst KeepLaws (sym (append-nil state.rows)) sound.laws;
-  told = tt;
-}
+-- ---- a ruling on an attempt
 
 pub settle_keeps : SettleKeepsSound
-settle_keeps state entry attempt how ready = at (latest_of attempt state.rows) refl
+settle_keeps state entry intent order how ready attempt there =
+    subst (IsDone state 6 (Settles intent order there.intent.capture_method how) intent) (sym comes_to) (
+      same,
+      number,
+      subst (λ (t : Touch). MayBeAdded state 6 t (with_ruling how there.row.account there.row.object there.intent (with_settled how attempt.row attempt.attempt batch))) same
+          (settled_enters state entry how attempt.row there.row attempt.attempt there.intent ready
+          (record {
+            stands = first.0;
+            is = attempt.item_is;
+            named = first.1 ∙ ap (λ (o : Order). o.reference) (sym attempt.order_is);
+            of = attempt.intent_is ∙ sym number;
+          })
+          (record { stands = second.0; is = there.item_is })),
+    )
   where
-    intent_item : (row intent_row : Row) (attempt : Attempt) → IsAttempt state row attempt
-        → row_at intent_row.place state.rows ≡ Some intent_row → (content : Item) → intent_row.item ≡ content
-        → AddsSound state (settle_both how row attempt intent_row (batch_after state entry) (intent_in content))
-    intent_item row intent_row attempt stood stands (item.Account account) e = nothing_enters state entry ready.sound
-    intent_item row intent_row attempt stood stands (item.Intent intent) e =
-        settled_enters state entry how row intent_row attempt intent ready stood (record { stands = stands; is = e })
-    intent_item row intent_row attempt stood stands (item.Attempt other) e = nothing_enters state entry ready.sound
-    intent_item row intent_row attempt stood stands (item.Charge charge) e = nothing_enters state entry ready.sound
-    intent_item row intent_row attempt stood stands (item.Refund refund) e = nothing_enters state entry ready.sound
-    intent_item row intent_row attempt stood stands (item.Dispute dispute) e = nothing_enters state entry ready.sound
-    intent_item row intent_row attempt stood stands (item.Txn txn) e = nothing_enters state entry ready.sound
-    intent_item row intent_row attempt stood stands (item.Event event) e = nothing_enters state entry ready.sound
+    batch : BatchState
+    batch = batch_after state entry
 
-    intent_at : (row : Row) (attempt : Attempt) → IsAttempt state row attempt
-        → (found : Option Row) → latest_of attempt.intent state.rows ≡ found
-        → AddsSound state (settle_intent how row attempt (batch_after state entry) found)
-    intent_at row attempt stood None e = nothing_enters state entry ready.sound
-    intent_at row attempt stood (Some intent_row) e =
-        let stands = (latest_of_sound state attempt.intent intent_row ready.sound e).0 in
-        intent_item row intent_row attempt stood stands intent_row.item refl
+    first : (row_at attempt.row.place state.rows ≡ Some attempt.row) × (attempt.row.object ≡ order.reference)
+    first = latest_of_sound state order.reference attempt.row ready.sound attempt.latest
 
-    attempt_item : (row : Row) → row_at row.place state.rows ≡ Some row → (content : Item) → row.item ≡ content
-        → AddsSound state (settle_attempt state.rows how row (batch_after state entry) (attempt_in content))
-    attempt_item row stands (item.Account account) e = nothing_enters state entry ready.sound
-    attempt_item row stands (item.Intent intent) e = nothing_enters state entry ready.sound
-    attempt_item row stands (item.Attempt attempt) e =
-        intent_at row attempt (record { stands = stands; is = e }) (latest_of attempt.intent state.rows) refl
-    attempt_item row stands (item.Charge charge) e = nothing_enters state entry ready.sound
-    attempt_item row stands (item.Refund refund) e = nothing_enters state entry ready.sound
-    attempt_item row stands (item.Dispute dispute) e = nothing_enters state entry ready.sound
-    attempt_item row stands (item.Txn txn) e = nothing_enters state entry ready.sound
-    attempt_item row stands (item.Event event) e = nothing_enters state entry ready.sound
+    second : (row_at there.row.place state.rows ≡ Some there.row) × (there.row.object ≡ intent)
+    second = latest_of_sound state intent there.row ready.sound there.latest
 
-    at : (found : Option Row) → latest_of attempt state.rows ≡ found
-        → AddsSound state (settle_row state.rows how (batch_after state entry) found)
-    at None e = nothing_enters state entry ready.sound
-    at (Some row) e = attempt_item row (latest_of_sound state attempt row ready.sound e).0 row.item refl
+    number : there.row.object ≡ intent
+    number = second.1
+
+    same : Settles there.row.object attempt.attempt.order there.intent.capture_method how ≡ Settles intent order there.intent.capture_method how
+    same =
+        ap (λ i. Settles i attempt.attempt.order there.intent.capture_method how) number
+        ∙ ap (λ o. Settles intent o there.intent.capture_method how) attempt.order_is
+
+    comes_to : settle_outcome state.rows order.reference how batch ≡ settle_both how attempt.row attempt.attempt there.row batch (Some there.intent)
+    comes_to =
+        ap (settle_row state.rows how batch) attempt.latest
+        ∙ ap (λ content. settle_attempt state.rows how attempt.row batch (attempt_in content)) attempt.item_is
+        ∙ ap (λ n. settle_intent how attempt.row attempt.attempt batch (latest_of n state.rows)) attempt.intent_is
+        ∙ ap (settle_intent how attempt.row attempt.attempt batch) there.latest
+        ∙ ap (λ content. settle_both how attempt.row attempt.attempt there.row batch (intent_in content)) there.item_is

@@ -3,6 +3,7 @@ use Rattle.std.specs.Prelude.{ℕ, List, None, Some}
 use Rattle.ph_base.specs.declared.acquirer.Method.TheVariants as method
 use Rattle.ph_calls.specs.declared.call.Authenticate.{Authenticate}
 use Rattle.ph_facts.specs.Outcomes.{Outcome}
+use Rattle.ph_facts.specs.Touches.{Authenticates}
 use Rattle.ph_rows.specs.declared.rows.Row.{Row}
 use Rattle.ph_items.specs.declared.intents.Intent.{Intent}
 use Rattle.ph_items.specs.declared.intents.IntentStatus.{IntentStatus}
@@ -23,7 +24,7 @@ authenticated_intent intent status = record intent { status = status; last_payme
 -- the authentication of a payment intent's customer, where its status waits for that
 abbrev pub authenticate_of : ℕ → BatchState → ℕ → Intent → Outcome
 authenticate_of account batch object intent =
-    if_allowed (λ status. attempted account object (authenticated_intent intent status) method.Authenticated batch)
+    if_allowed (λ status. attempted Authenticates account object (authenticated_intent intent status) method.Authenticated batch)
     (next_status intent.status step.Authenticate)
 
 -- the authentication for the payment intent that the path names

@@ -3,6 +3,7 @@ use Rattle.std.specs.Prelude.{ℕ, List, Option, None, Some}
 use Rattle.std.specs.Option.{option_or}
 use Rattle.ph_calls.specs.declared.call.ConfirmIntent.{ConfirmIntent}
 use Rattle.ph_facts.specs.Outcomes.{Outcome}
+use Rattle.ph_facts.specs.Touches.{Confirms}
 use Rattle.ph_rows.specs.declared.rows.Row.{Row}
 use Rattle.ph_items.specs.declared.intents.Intent.{Intent}
 use Rattle.ph_items.specs.declared.intents.IntentStatus.{IntentStatus}
@@ -25,7 +26,7 @@ paying_intent method intent status = record intent {
 abbrev pub confirm_with : ℕ → BatchState → ℕ → Intent → Option PaymentMethod → Outcome
 confirm_with account batch object intent None = unexpected_state
 confirm_with account batch object intent (Some method) =
-    if_allowed (λ status. attempted account object (paying_intent method intent status) method.method batch)
+    if_allowed (λ status. attempted Confirms account object (paying_intent method intent status) method.method batch)
     (next_status intent.status step.Confirm)
 
 -- the confirm of a payment intent with the payment method that is named, or else its own

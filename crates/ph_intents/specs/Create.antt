@@ -3,6 +3,7 @@ use Rattle.std.specs.Prelude.{ℕ, ◌+◌, List, Option, None, Some, unwrap_or,
 use Rattle.ph_base.specs.declared.acquirer.Method.{Method}
 use Rattle.ph_calls.specs.declared.call.CreateIntent.{CreateIntent}
 use Rattle.ph_facts.specs.Outcomes.{Outcome, Refuses, Adds}
+use Rattle.ph_facts.specs.Touches.{Confirms}
 use Rattle.ph_errors.specs.Table.{error_of, ParameterMissing}
 use Rattle.ph_kinds.specs.Kept.{first_metadata}
 use Rattle.ph_rows.specs.declared.rows.Row.{Row}
@@ -13,7 +14,7 @@ use Rattle.ph_items.specs.declared.intents.CaptureMethod.TheVariants as capture_
 use Rattle.ph_items.specs.declared.payment_methods.PaymentMethod.{PaymentMethod}
 use Rattle.ph_items.specs.declared.event_kinds.EventKind.TheVariants as event
 use Rattle.ph_rows.specs.Batches.{BatchState, last_place, with_announced}
-use Rattle.ph_intents.specs.Attempts.{with_attempt}
+use Rattle.ph_intents.specs.Attempts.{begins, with_attempt}
 use Rattle.ph_intents.specs.Versions.{with_version, adds_told}
 
 -- where a payment intent begins: it waits for a payment method, or for its confirmation where it has one
@@ -53,7 +54,9 @@ with_both account object intent method batch =
 -- a new payment intent, which is announced, and its attempt to be paid by a method
 abbrev pub created_with : ℕ → Intent → Method → BatchState → Outcome
 created_with account intent method batch =
-    Adds (last_place batch + 1)
+    Adds
+    (begins Confirms (last_place batch + 1) intent method (with_version account (last_place batch + 1) intent batch))
+    (last_place batch + 1)
     (with_announced (with_both account (last_place batch + 1) intent method batch) event.IntentCreated
     (last_place batch + 1))
 

@@ -5,11 +5,16 @@ use Rattle.ph_calls.specs.declared.call.ConfirmIntent.{ConfirmIntent}
 use Rattle.ph_calls.specs.declared.call.CreateIntent.{CreateIntent}
 use Rattle.ph_calls.specs.declared.call.UpdateIntent.{UpdateIntent}
 use Rattle.ph_kinds.specs.Kept.{named_texts}
+use Rattle.ph_facts.specs.Shown.{HasAttempt, HasIntent}
+use Rattle.ph_facts.specs.Touches.{Settles}
+use Rattle.ph_items.specs.declared.attempts.AttemptState.TheVariants as attempt_state
+use Rattle.ph_items.specs.declared.intents.IntentStatus.TheVariants as status
+use Rattle.ph_items.specs.declared.orders.Order.{Order}
 use Rattle.ph_rows.specs.Views.{ViewState}
 use Rattle.ph_items.specs.Weights.{with_text, method_text}
 use Rattle.ph_intents.specs.Settle.{settle_outcome}
 pub use Rattle.ph_items.specs.Weights.{AreUtf8}
-pub use Rattle.ph_facts.specs.Keeps.{AddsSound, IsReady, KeepsSound, batch_after, no_texts}
+pub use Rattle.ph_facts.specs.Keeps.{IsDone, IsReady, KeepsRows, KeepsSound, MayBeAdded, batch_after, no_texts}
 
 -- the texts of each call that its rows keep
 abbrev pub create_texts : CreateIntent → List (List ℕ)
@@ -25,8 +30,11 @@ update_texts call =
 abbrev pub confirm_texts : ConfirmIntent → List (List ℕ)
 confirm_texts call = with_text (method_text call.payment_method) []
 
--- whatever stands, what a ruling adds may be entered
+-- whatever stands, where an attempt is live under its order and its payment intent is processing, a ruling settles it: the
+-- reply shows the payment intent
 abbrev pub SettleKeepsSound : Type 0
 SettleKeepsSound =
-    (state : ViewState) (entry attempt : ℕ) (ruling : Ruling) → IsReady state
-    → AddsSound state (settle_outcome state.rows attempt ruling (batch_after state entry))
+    (state : ViewState) (entry intent : ℕ) (order : Order) (ruling : Ruling) → IsReady state
+    → HasAttempt state.rows order.reference intent order attempt_state.Live → (there : HasIntent state.rows intent status.Processing)
+    → IsDone state 6 (Settles intent order there.intent.capture_method ruling) intent
+    (settle_outcome state.rows order.reference ruling (batch_after state entry))

@@ -13,3 +13,4 @@ pub mod Settle
 pub mod Statuses
 pub mod Update
 pub mod Versions
+pub mod Begun

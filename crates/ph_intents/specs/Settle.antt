@@ -3,11 +3,11 @@ use Rattle.std.specs.Prelude.{ℕ, List, Option, None, Some}
 use Rattle.ph_base.specs.declared.acquirer.Ruling.{Ruling}
 use Rattle.ph_base.specs.declared.acquirer.Ruling.TheVariants as ruling
 use Rattle.ph_facts.specs.Outcomes.{Outcome, Adds}
+use Rattle.ph_facts.specs.Statuses.{state_ruled}
+use Rattle.ph_facts.specs.Touches.{Untouched, Settles}
 use Rattle.ph_charges.specs.Approvals.{approval_of, charge_number, decline_of}
 use Rattle.ph_rows.specs.declared.rows.Row.{Row}
 use Rattle.ph_items.specs.declared.attempts.Attempt.{Attempt}
-use Rattle.ph_items.specs.declared.attempts.AttemptState.{AttemptState}
-use Rattle.ph_items.specs.declared.attempts.AttemptState.TheVariants as state
 use Rattle.ph_items.specs.declared.intents.Intent.{Intent}
 use Rattle.ph_items.specs.declared.intents.IntentStatus.TheVariants as status
 use Rattle.ph_items.specs.declared.intents.CaptureMethod.{CaptureMethod}
@@ -23,15 +23,9 @@ use Rattle.ph_intents.specs.Authenticate.{failed_intent}
 use Rattle.ph_intents.specs.Capture.{received_intent}
 use Rattle.ph_intents.specs.Versions.{with_told}
 
--- where a ruling leaves its attempt
-abbrev pub settled_state : Ruling → AttemptState
-settled_state ruling.Approved = state.Approved
-settled_state (ruling.Declined decline) = state.Declined
-settled_state ruling.Challenge = state.Challenged
-
 -- an attempt after a ruling
 abbrev pub settled_attempt : Ruling → Attempt → Attempt
-settled_attempt ruling attempt = record attempt { state = settled_state ruling }
+settled_attempt ruling attempt = record attempt { state = state_ruled ruling }
 
 -- a payment intent that is approved to be captured later: all of it can be captured
 abbrev pub held_intent : Intent → Intent
@@ -92,7 +86,7 @@ with_ruling ruling account object intent batch =
 
 -- nothing to be settled is there
 abbrev pub nothing : BatchState → Outcome
-nothing batch = Adds 0 batch
+nothing batch = Adds Untouched 0 batch
 
 -- the batch with the version of an attempt after a ruling, under the account that the attempt has
 abbrev pub with_settled : Ruling → Row → Attempt → BatchState → BatchState
@@ -103,7 +97,7 @@ with_settled ruling row attempt batch =
 abbrev pub settle_both : Ruling → Row → Attempt → Row → BatchState → Option Intent → Outcome
 settle_both ruling row attempt intent_row batch None = nothing batch
 settle_both ruling row attempt intent_row batch (Some intent) =
-    Adds intent_row.object
+    Adds (Settles intent_row.object attempt.order intent.capture_method ruling) intent_row.object
     (with_ruling ruling intent_row.account intent_row.object intent (with_settled ruling row attempt batch))
 
 -- a ruling on the attempt in a row, whose payment intent is in a row, where there is one

@@ -1,8 +1,9 @@
 -- The update.
-use Rattle.std.specs.Prelude.{ℕ, Bool, true, false, ◌||◌, nat_lt, if◌then◌else◌, List, length, unwrap_or, codes}
+use Rattle.std.specs.Prelude.{ℕ, Bool, true, false, ◌==◌, ◌||◌, nat_lt, if◌then◌else◌, List, length, unwrap_or, codes}
 use Rattle.std.specs.Option.{is_some, option_or}
 use Rattle.ph_calls.specs.declared.call.UpdateIntent.{UpdateIntent}
 use Rattle.ph_facts.specs.Outcomes.{Outcome, Refuses, Adds}
+use Rattle.ph_facts.specs.Touches.{Touch, Puts, Edits}
 use Rattle.ph_errors.specs.Table.{error_of, AmountTooSmall}
 use Rattle.ph_money.specs.Currencies.{terms_of}
 use Rattle.ph_rows.specs.declared.rows.Row.{Row}
@@ -13,7 +14,7 @@ use Rattle.ph_intents.specs.declared.statuses.Step.{Step}
 use Rattle.ph_intents.specs.declared.statuses.Step.TheVariants as step
 use Rattle.ph_intents.specs.Metadata.{merged_metadata}
 use Rattle.ph_intents.specs.Refusals.{made_at, if_allowed, invalid_value}
-use Rattle.ph_intents.specs.Statuses.{next_status}
+use Rattle.ph_intents.specs.Statuses.{line_number, next_status}
 use Rattle.ph_intents.specs.Versions.{with_version}
 
 -- the step of an update that names a payment method, or something else than description and metadata, or neither
@@ -43,17 +44,22 @@ updated_intent call intent status = record intent {
 abbrev pub most_keys : ℕ
 most_keys = 50
 
--- a version that results from an update, with an amount of at least the currency's minimum and at most 50 keys
-abbrev pub update_with : ℕ → BatchState → ℕ → Intent → Outcome
-update_with account batch object intent =
+-- what an update does that leads a payment intent from one status to another: it is put there; or it is edited, where that is
+-- the same
+abbrev pub led : ℕ → IntentStatus → IntentStatus → Touch
+led object old new = if line_number old == line_number new then Edits object new else Puts object new
+
+-- a version that results from an update at a status, with an amount of at least the currency's minimum and at most 50 keys
+abbrev pub update_with : ℕ → BatchState → ℕ → IntentStatus → Intent → Outcome
+update_with account batch object old intent =
     if nat_lt intent.amount (terms_of intent.currency).minimum then Refuses (error_of AmountTooSmall)
     else if nat_lt most_keys (length intent.metadata) then invalid_value (codes "metadata")
-    else Adds object (with_version account object intent batch)
+    else Adds (led object old intent.status) object (with_version account object intent batch)
 
 -- the update of a payment intent, where its status allows it
 abbrev pub update_of : ℕ → UpdateIntent → BatchState → ℕ → Intent → Outcome
 update_of account call batch object intent =
-    if_allowed (λ status. update_with account batch object (updated_intent call intent status))
+    if_allowed (λ status. update_with account batch object intent.status (updated_intent call intent status))
     (next_status intent.status (step_of call))
 
 -- the update of the payment intent that the path names

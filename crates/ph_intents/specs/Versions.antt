@@ -1,6 +1,7 @@
 -- Versions of a payment intent in a batch.
 use Rattle.std.specs.Prelude.{ℕ}
 use Rattle.ph_facts.specs.Outcomes.{Outcome, Adds}
+use Rattle.ph_facts.specs.Touches.{Puts}
 use Rattle.ph_items.specs.declared.intents.Intent.{Intent}
 use Rattle.ph_items.specs.declared.items.Item.TheVariants as item
 use Rattle.ph_items.specs.declared.event_kinds.EventKind.{EventKind}
@@ -14,6 +15,7 @@ with_version account object intent batch = with_row batch object account (item.I
 abbrev pub with_told : ℕ → ℕ → Intent → EventKind → BatchState → BatchState
 with_told account object intent sort batch = with_announced (with_version account object intent batch) sort object
 
--- the outcome: that version, told, and the payment intent is what the reply shows
+-- the outcome: the payment intent is put into the status of that version, which is told, and is what the reply shows
 abbrev pub adds_told : ℕ → ℕ → Intent → EventKind → BatchState → Outcome
-adds_told account object intent sort batch = Adds object (with_told account object intent sort batch)
+adds_told account object intent sort batch =
+    Adds (Puts object intent.status) object (with_told account object intent sort batch)

@@ -1,9 +1,11 @@
 //! The authentication of a customer.
 ghost use Rattle.std.specs.Prelude.{◌≡◌, IfOk};
 ghost use Rattle.ph_facts.specs.Outcomes.{Gives};
+ghost use Rattle.ph_intents.specs.Begun.{GivesBegun};
 ghost use Rattle.ph_intents.specs.Authenticate.{authenticate_of, authenticate_outcome, authenticated_intent, fail_authentication_outcome, fail_of, failed_intent};
 
 use crate::attempts::add_attempted;
+use crate::begins::Begun;
 use crate::refusals::{no_such_intent, unexpected_state};
 use crate::statuses::{Step, next_status};
 use crate::versions::tell_version;
@@ -35,8 +37,8 @@ fn authenticate_intent(
     object: u64,
     intent: &Intent,
     batch: &mut Batch,
-) -> Result<u64, Refusal>
-    ensures { Gives (authenticate_of account batch.old object intent.now) batch.old result batch.new }
+) -> Result<Begun, Refusal>
+    ensures { GivesBegun (authenticate_of account batch.old object intent.now) batch.old result batch.new }
 {
     match next_status(intent.status, Step::Authenticate) {
         Some(status) => {
@@ -54,8 +56,8 @@ pub fn authenticate<V: View>(
     account: u64,
     call: &Authenticate,
     batch: &mut Batch,
-) -> Result<u64, Refusal>
-    ensures { Gives (authenticate_outcome (V.state view.now).rows account call.now batch.old) batch.old result batch.new }
+) -> Result<Begun, Refusal>
+    ensures { GivesBegun (authenticate_outcome (V.state view.now).rows account call.now batch.old) batch.old result batch.new }
 {
     let Some(row) = owned_named(view, account, Kind::Intent, call.id.as_slice()) else {
         return Err(no_such_intent(alloc));

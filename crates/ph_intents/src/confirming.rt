@@ -1,10 +1,11 @@
 //! The confirm.
 ghost use Rattle.std.specs.Prelude.{◌≡◌, IfOk};
 ghost use Rattle.std.specs.Option.{option_copied};
-ghost use Rattle.ph_facts.specs.Outcomes.{Gives};
+ghost use Rattle.ph_intents.specs.Begun.{GivesBegun};
 ghost use Rattle.ph_intents.specs.Confirm.{confirm_of, confirm_outcome, confirm_with, paying_intent};
 
 use crate::attempts::add_attempted;
+use crate::begins::Begun;
 use crate::refusals::{no_such_intent, unexpected_state};
 use crate::statuses::{Step, next_status};
 use ph_base::{Kind, NoMemory};
@@ -38,8 +39,8 @@ fn confirm_with(
     intent: &Intent,
     method: Option<&PaymentMethod>,
     batch: &mut Batch,
-) -> Result<u64, Refusal>
-    ensures { Gives (confirm_with account batch.old object intent.now (option_copied method.entry)) batch.old result batch.new }
+) -> Result<Begun, Refusal>
+    ensures { GivesBegun (confirm_with account batch.old object intent.now (option_copied method.entry)) batch.old result batch.new }
 {
     let Some(method) = method else {
         return Err(unexpected_state(alloc));
@@ -61,8 +62,8 @@ fn confirm_intent(
     object: u64,
     intent: &Intent,
     batch: &mut Batch,
-) -> Result<u64, Refusal>
-    ensures { Gives (confirm_of account named.now batch.old object intent.now) batch.old result batch.new }
+) -> Result<Begun, Refusal>
+    ensures { GivesBegun (confirm_of account named.now batch.old object intent.now) batch.old result batch.new }
 {
     match named {
         Some(method) => confirm_with(alloc, account, object, intent, Some(method), batch),
@@ -80,8 +81,8 @@ pub fn confirm<V: View>(
     account: u64,
     call: &ConfirmIntent,
     batch: &mut Batch,
-) -> Result<u64, Refusal>
-    ensures { Gives (confirm_outcome (V.state view.now).rows account call.now batch.old) batch.old result batch.new }
+) -> Result<Begun, Refusal>
+    ensures { GivesBegun (confirm_outcome (V.state view.now).rows account call.now batch.old) batch.old result batch.new }
 {
     let Some(row) = owned_named(view, account, Kind::Intent, call.id.as_slice()) else {
         return Err(no_such_intent(alloc));

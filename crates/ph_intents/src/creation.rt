@@ -1,9 +1,11 @@
 //! The create.
 ghost use Rattle.std.specs.Prelude.{◌≡◌, IfOk};
 ghost use Rattle.ph_facts.specs.Outcomes.{Gives};
+ghost use Rattle.ph_intents.specs.Begun.{GivesBegun};
 ghost use Rattle.ph_intents.specs.Create.{create_confirmed_outcome, create_outcome, created_with, new_intent};
 
 use crate::attempts::add_attempt;
+use crate::begins::Begun;
 use crate::refusals::parameter_missing;
 use ph_base::{Method, NoMemory};
 use ph_calls::CreateIntent;
@@ -66,15 +68,15 @@ fn create_with(
     intent: Intent,
     method: Method,
     batch: &mut Batch,
-) -> Result<u64, Refusal>
-    ensures { Gives (created_with account intent method batch.old) batch.old result batch.new }
+) -> Result<Begun, Refusal>
+    ensures { GivesBegun (created_with account intent method batch.old) batch.old result batch.new }
 {
     let amount = intent.amount;
     let currency = intent.currency;
     let object = batch.add(account, Item::Intent(intent))?;
-    add_attempt(account, object, amount, currency, method, batch)?;
+    let order = add_attempt(account, object, amount, currency, method, batch)?;
     batch.announce(EventKind::IntentCreated, object)?;
-    Ok(object)
+    Ok(Begun { object, order })
 }
 
 /// Adds a payment intent that is confirmed at once. Its request is refused where it has no payment method, and so is it.
@@ -84,8 +86,8 @@ pub fn create_confirmed<V: View>(
     account: u64,
     call: &CreateIntent,
     batch: &mut Batch,
-) -> Result<u64, Refusal>
-    ensures { Gives (create_confirmed_outcome (V.state view.now).rows account call.now batch.old) batch.old result batch.new }
+) -> Result<Begun, Refusal>
+    ensures { GivesBegun (create_confirmed_outcome (V.state view.now).rows account call.now batch.old) batch.old result batch.new }
 {
     match &call.payment_method {
         Some(method) => {

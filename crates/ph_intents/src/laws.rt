@@ -8,27 +8,29 @@ ghost use Rattle.ph_intents.specs.Keeps.{KeepsSound, SettleKeepsSound, confirm_t
 ghost use Rattle.ph_intents.specs.Laws.{BegunIsAsked};
 ghost use Rattle.ph_intents.specs.Update.{update_outcome};
 
-/// Each call that begins an attempt, where it is accepted, leaves a batch whose last row is the attempt: `begun` gives
-/// its order, whose reference is the place of that row.
+/// Each call that begins an attempt, where it is accepted, waits for an order, whose reference is the place of the
+/// batch's last row.
 pub fn begun_is_asked()
     ensures confirm { BegunIsAsked confirm_outcome }
     ensures create { BegunIsAsked create_confirmed_outcome }
     ensures authenticate { BegunIsAsked authenticate_outcome }
 {}
 
-/// What each call adds may be entered after sound rows, which stay sound.
+/// The law of each call: it is refused as calls are, or its batch may be entered after sound rows, which stay sound,
+/// is no larger than this, and shows what is done to payment intents and attempts, which may be done there.
 pub fn calls_keep_sound()
-    ensures create { KeepsSound create_texts create_outcome }
-    ensures create_confirmed { KeepsSound create_texts create_confirmed_outcome }
-    ensures update { KeepsSound update_texts update_outcome }
-    ensures confirm { KeepsSound confirm_texts confirm_outcome }
-    ensures authenticate { KeepsSound no_texts authenticate_outcome }
-    ensures fail_authentication { KeepsSound no_texts fail_authentication_outcome }
-    ensures capture { KeepsSound no_texts capture_outcome }
-    ensures cancel { KeepsSound no_texts cancel_outcome }
+    ensures create { KeepsSound create_texts 2 create_outcome }
+    ensures create_confirmed { KeepsSound create_texts 3 create_confirmed_outcome }
+    ensures update { KeepsSound update_texts 1 update_outcome }
+    ensures confirm { KeepsSound confirm_texts 2 confirm_outcome }
+    ensures authenticate { KeepsSound no_texts 2 authenticate_outcome }
+    ensures fail_authentication { KeepsSound no_texts 2 fail_authentication_outcome }
+    ensures capture { KeepsSound no_texts 5 capture_outcome }
+    ensures cancel { KeepsSound no_texts 2 cancel_outcome }
 {}
 
-/// What a ruling adds may be entered after sound rows, which stay sound.
+/// The law of a ruling: it settles a live attempt whose payment intent is processing, its batch may be entered after
+/// sound rows, which stay sound, and shows that.
 pub fn settle_keeps_sound()
     ensures { SettleKeepsSound }
 {}

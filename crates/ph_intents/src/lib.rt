@@ -18,10 +18,9 @@ mod statuses;
 mod updating;
 mod versions;
 
-pub use attempts::begun;
 pub use authentication::fail_authentication;
 pub use beginning::begin;
-pub use begins::Begin;
+pub use begins::{Begin, Begun};
 pub use canceling::cancel;
 pub use capturing::capture;
 pub use creation::create;

@@ -1,7 +1,8 @@
 //! What a ruling of the acquirer makes of an attempt and its payment intent.
-ghost use Rattle.std.specs.Prelude.{◌≡◌, IfOk, OnOk};
-ghost use Rattle.ph_facts.specs.Outcomes.{Adds};
-ghost use Rattle.ph_intents.specs.Settle.{approved_event, approved_intent, charge_after, held_intent, ruled_intent, settle_outcome, settled_attempt, settled_event, settled_intent, settled_state, with_charge, with_ruling};
+ghost use Rattle.std.specs.Prelude.{◌≡◌, IfOk, None, OnOk};
+ghost use Rattle.ph_facts.specs.Outcomes.{Added, seen};
+ghost use Rattle.ph_facts.specs.Statuses.{state_ruled};
+ghost use Rattle.ph_intents.specs.Settle.{approved_event, approved_intent, charge_after, held_intent, ruled_intent, settle_outcome, settled_attempt, settled_event, settled_intent, with_charge, with_ruling};
 
 use crate::authentication::failed_intent;
 use crate::capturing::received_intent;
@@ -16,7 +17,7 @@ use std::alloc::Global;
 
 // Where a ruling leaves its attempt.
 fn settled_state(ruling: Ruling) -> AttemptState
-    ensures { result ≡ settled_state ruling }
+    ensures { result ≡ state_ruled ruling }
 {
     match ruling {
         Ruling::Approved => AttemptState::Approved,
@@ -165,7 +166,7 @@ pub fn settle<V: View>(
     ruling: Ruling,
     batch: &mut Batch,
 ) -> Result<u64, NoMemory>
-    ensures { IfOk result (λ object. settle_outcome (V.state view.now).rows attempt ruling batch.old ≡ Adds object batch.new) }
+    ensures { IfOk result (λ object. seen (settle_outcome (V.state view.now).rows attempt ruling batch.old) ≡ Added object None batch.new) }
 {
     let Some(row) = view.latest(attempt) else {
         return Ok(0);

@@ -87,7 +87,7 @@ fn update_with(
     intent: Intent,
     batch: &mut Batch,
 ) -> Result<u64, Refusal>
-    ensures { Gives (update_with account batch.old object intent) batch.old result batch.new }
+    ensures { (status : IntentStatus) → Gives (update_with account batch.old object status intent) batch.old result batch.new }
 {
     if intent.amount < intent.currency.minimum() {
         return Err(amount_too_small(alloc));

@@ -2,6 +2,7 @@
 use Rattle.std.specs.Prelude.{ℕ, ◌+◌, ◌-◌, Bool, true, false, ◌==◌, not, nat_lt, if◌then◌else◌, List, Option, None, Some, unwrap_or, codes, option_and_then}
 use Rattle.ph_calls.specs.declared.call.CreateRefund.{CreateRefund}
 use Rattle.ph_facts.specs.Outcomes.{Outcome, Refuses, Adds}
+use Rattle.ph_facts.specs.Touches.{Untouched}
 use Rattle.ph_errors.specs.Table.{error_of, ChargeNotCaptured, ChargeDisputed, ChargeAlreadyRefunded, InvalidValue}
 use Rattle.ph_rows.specs.declared.rows.Row.{Row}
 use Rattle.ph_items.specs.declared.charges.Capture.{Capture}
@@ -44,7 +45,7 @@ left_of charge = charge.amount_captured - charge.amount_refunded
 abbrev pub refund_amount : CreateRefund → BatchState → Row → Charge → Capture → ℕ → Outcome
 refund_amount call batch row charge capture amount =
     if nat_lt (left_of charge) amount then Refuses (error_of (InvalidValue (codes "amount")))
-    else Adds (last_place batch + 1) (refund_rows call row.account row.object charge capture amount batch)
+    else Adds Untouched (last_place batch + 1) (refund_rows call row.account row.object charge capture amount batch)
 
 -- the refund of what a call names, or else of all that is left, where something is
 abbrev pub refund_left : CreateRefund → BatchState → Row → Charge → Capture → Outcome

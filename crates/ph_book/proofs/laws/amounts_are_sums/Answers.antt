@@ -1,6 +1,6 @@
 use Rattle.ph_book.specs.History.{view_of}
 use Rattle.ph_book.proofs.MoneyLemmas.{sound_amounts}
-use Rattle.ph_book.proofs.SoundLemmas.{history_sound}
+use Rattle.ph_book.proofs.StandLemmas.{history_sound}
 use Rattle.ph_book.proofs.laws.amounts_are_sums.Goals as goal
 
 pub returns : goal.returns

@@ -1,6 +1,6 @@
 use Rattle.ph_book.specs.History.{view_of}
 use Rattle.ph_book.proofs.MoneyLemmas.{sound_disputes}
-use Rattle.ph_book.proofs.SoundLemmas.{history_sound}
+use Rattle.ph_book.proofs.StandLemmas.{history_sound}
 use Rattle.ph_book.proofs.laws.disputes_move_once.Goals as goal
 
 pub returns : goal.returns

@@ -1,6 +1,6 @@
 use Rattle.ph_book.specs.History.{view_of}
 use Rattle.ph_book.proofs.MoneyLemmas.{sound_refunds}
-use Rattle.ph_book.proofs.SoundLemmas.{history_sound}
+use Rattle.ph_book.proofs.StandLemmas.{history_sound}
 use Rattle.ph_book.proofs.laws.refunds_fit.Goals as goal
 
 pub returns : goal.returns

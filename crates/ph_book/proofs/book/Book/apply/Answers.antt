@@ -6,31 +6,21 @@ use Rattle.ph_book.specs.declared.acts.Answer.TheVariants as answer
 use Rattle.ph_book.specs.Answers.{IsAnswerTo}
 use Rattle.ph_book.specs.Entries.{deed_of, finish_entry, park_entry, tick_entry}
 use Rattle.ph_book.specs.Legal.{is_full}
-use Rattle.ph_book.proofs.EffectLemmas.{park_status, reply_served, said_to_call, said_to_finish, says_reply, says_served, says_silence}
+use Rattle.ph_book.proofs.ReplyLemmas.{park_status, ruled_status, says_reply, says_silence}
 use Rattle.ph_book.proofs.HistoryLemmas.{has_room, replies_grow}
 use Rattle.ph_book.proofs.StepLemmas.{finish_room, park_room}
 use Rattle.ph_book.proofs.book.Book.apply.Goals as goal
 
 pub returns-in-Ok-clause-kind : goal.returns-in-Ok-clause-kind
-returns-in-Ok-clause-kind c =
-    let served = said_to_call c.args.self.now.setup c.args.self.now.history c.args.caller c.in-Call.raw in
-    subst (λ (act : Act). IsAnswerTo act c.in-Ok.answer) (sym c.in-Call.is) (says_served _ _ _ c.in-Ok.answer served c.in-Ok.ensures.answer).1
+returns-in-Ok-clause-kind c = subst (λ (act : Act). IsAnswerTo act c.in-Ok.answer) (sym c.in-Call.is) c.in-Ok.ensures.kind
 
-pub returns-in-Ok-clause-status : goal.returns-in-Ok-clause-status
-returns-in-Ok-clause-status c =
-    let served = said_to_call c.args.self.now.setup c.args.self.now.history c.args.caller c.in-Call.raw in
-    (says_served _ _ _ c.in-Ok.answer served c.in-Ok.ensures.answer).0
 
 pub returns-in-Ok-finish-clause-kind : goal.returns-in-Ok-finish-clause-kind
 returns-in-Ok-finish-clause-kind c =
-    let served = said_to_finish c.args.self.now.setup c.args.self.now.history c.args.caller c.in-Finish.ticket c.in-Finish.ruling in
-    subst (λ (act : Act). IsAnswerTo act (answer.Reply c.in-Ok-finish.reply)) (sym c.in-Finish.is)
-    (tt, (reply_served _ c.in-Ok-finish.reply served c.in-Ok-finish.ensures.said).1)
+    subst (λ (act : Act). IsAnswerTo act (answer.Reply c.in-Ok-finish.reply)) (sym c.in-Finish.is) c.in-Ok-finish.ensures.ruled
 
 pub returns-in-Ok-finish-clause-status : goal.returns-in-Ok-finish-clause-status
-returns-in-Ok-finish-clause-status c =
-    let served = said_to_finish c.args.self.now.setup c.args.self.now.history c.args.caller c.in-Finish.ticket c.in-Finish.ruling in
-    (reply_served _ c.in-Ok-finish.reply served c.in-Ok-finish.ensures.said).0
+returns-in-Ok-finish-clause-status c = ruled_status c.in-Ok-finish.reply.status c.in-Ok-finish.ensures.ruled
 
 pub returns-in-Ok-finish-clause-replies : goal.returns-in-Ok-finish-clause-replies
 returns-in-Ok-finish-clause-replies c =

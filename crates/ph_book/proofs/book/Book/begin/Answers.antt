@@ -7,11 +7,8 @@ use Rattle.ph_book.specs.Legal.{raw_weight}
 use Rattle.ph_book.specs.State.{BookState}
 use Rattle.ph_book.specs.Tickets.{Holds}
 use Rattle.ph_book.proofs.HistoryLemmas.{book_is}
-use Rattle.ph_book.proofs.StepLemmas.{begin_book, begin_new, begun_held, time_now}
+use Rattle.ph_book.proofs.StepLemmas.{begin_book, begun_held, time_now}
 use Rattle.ph_book.proofs.book.Book.begin.Goals as goal
-
-pub begin-requires : goal.begin-requires
-begin-requires c = record { new = begin_new _ _ _ _ _ _ _ _ c.args.caller c.args.raw _ c.self.view_is c.self.invariant.0 c.requires.step }
 
 pub invariant_of-self-2 : goal.invariant_of-self-2
 invariant_of-self-2 c =
@@ -43,8 +40,6 @@ returns-clause-live c =
     let ticket : c.in-Ok-begin.ticket ≡ flight = c.in-Ok-begin.ensures.ticket ∙ ap (λ n. record { caller = c.args.caller; run = n; order = c.args.order }) run in
     let entries = c.push_reserved.ensures.items ∙ ap (λ history. history ++ call_entry c.args.caller c.args.raw ∷ []) c.in-Ok.ensures.entries in
     let new : BookState = record { setup = c.self.inside.setup; history = c.push_reserved.new.self.items } in
-    let grown = begin_book _ _ _ _ _ _ _ _ c.args.caller c.args.raw c.args.rows.items flight c.self.view_is c.self.invariant.0 c.requires.caller c.requires.room c.requires.rows c.requires.step
-    (c.requires.now ∙ time_now _ _ _ _ _ _ _ _ c.self.view_is c.self.invariant.0) in
     subst (λ (t : Flight). Holds new.setup new.history c.args.caller t) (sym ticket)
-    (begun_held _ new _ _ _ _ _ _ _ _ _ _ (call_entry c.args.caller c.args.raw) flight c.self.view_is c.self.invariant.0 grown
-    (ap (λ history. record { setup = c.self.inside.setup; history = history }) entries) refl)
+    (begun_held _ new _ _ (call_entry c.args.caller c.args.raw) flight c.self.view_is
+    (ap (λ history. record { setup = c.self.inside.setup; history = history }) entries) c.requires.step)

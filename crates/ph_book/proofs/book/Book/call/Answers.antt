@@ -1,6 +1,7 @@
 use Rattle.std.proofs.Common.{ap, ◌∙◌, ◌+◌}
 use Rattle.ph_book.specs.declared.acts.Deed.TheVariants as deed
 use Rattle.ph_book.proofs.HistoryLemmas.{full_is, has_room, no_room}
+use Rattle.ph_book.proofs.ReplyLemmas.{call_answered, call_steps_of}
 use Rattle.ph_book.proofs.StepLemmas.{called_is}
 use Rattle.ph_book.proofs.book.Book.call.Goals as goal
 
@@ -20,6 +21,17 @@ pub enter_called-requires-clause-called : goal.enter_called-requires-clause-call
 enter_called-requires-clause-called c =
     let place = ap (λ n. n + 1) (c.len-2.ensures ∙ c.self.inside.entries.ok.0) in
     called_is _ _ _ _ _ _ _ _ _ c.args.caller c.args.raw _ c.self.view_is c.self.invariant.0 place (c.in-Ok.ensures c.args.caller)
+
+pub enter_called-requires-clause-steps : goal.enter_called-requires-clause-steps
+enter_called-requires-clause-steps c = call_steps_of _ _ _ _ _ _ _ _ c.args.caller c.args.raw c.self.view_is c.self.invariant.0
+
+pub returns-in-Ok-enter_called-clause-kind : goal.returns-in-Ok-enter_called-clause-kind
+returns-in-Ok-enter_called-clause-kind c =
+    (call_answered _ _ _ _ _ _ _ _ _ c.args.caller c.args.raw _ c.self.view_is c.self.invariant.0 c.in-Ok-enter_called.ensures.answer).1
+
+pub returns-in-Ok-enter_called-clause-status : goal.returns-in-Ok-enter_called-clause-status
+returns-in-Ok-enter_called-clause-status c =
+    (call_answered _ _ _ _ _ _ _ _ _ c.args.caller c.args.raw _ c.self.view_is c.self.invariant.0 c.in-Ok-enter_called.ensures.answer).0
 
 pub returns-in-Ok-enter_called-clause-room : goal.returns-in-Ok-enter_called-clause-room
 returns-in-Ok-enter_called-clause-room c =

@@ -3,7 +3,7 @@ use Rattle.ph_rows.specs.Weights.{rows_weight}
 use Rattle.ph_book.specs.Entries.{call_entry}
 use Rattle.ph_book.specs.Legal.{raw_weight}
 use Rattle.ph_book.proofs.HistoryLemmas.{book_is}
-use Rattle.ph_book.proofs.StepLemmas.{call_book, call_time}
+use Rattle.ph_book.proofs.StepLemmas.{call_time, enter_book}
 use Rattle.ph_book.proofs.book.Book.enter.Goals as goal
 
 pub advance-requires : goal.advance-requires
@@ -19,8 +19,8 @@ invariant_of-self-2 c =
     let weight = c.in-Some.ensures.0 ∙ ap (λ rows. (c.self.inside.weight + raw_weight c.args.raw) + rows_weight rows) c.as_slice.ensures.value in
     let count = ap length c.push_reserved.ensures.items ∙ length-append c.take_room.new.entries.items (call_entry c.args.caller c.args.raw ∷ []) in (
       book_is _ _ _ _ _ _ _ _ _ _ _ _
-          (call_book _ _ _ _ _ _ _ _ c.args.caller c.args.raw c.args.rows.items None c.args.now _ c.self.view_is book c.requires.caller c.requires.room c.requires.rows
-          c.requires.step c.requires.now book.live_is)
+          (enter_book _ _ _ _ _ _ _ _ c.args.caller c.args.raw c.args.rows.items c.args.now c.self.view_is book c.requires.caller c.requires.room c.requires.rows
+          c.requires.step c.requires.now)
           entries (c.advance.ensures.rows ∙ c.append_reserved.ensures.rows ∙ ap (λ rows. rows ++ c.args.rows.items) c.in-Ok.ensures.rows)
           c.advance.ensures.time weight refl,
       record {

@@ -1,25 +1,23 @@
-use Rattle.std.proofs.Common.{sym, ap, ◌∙◌, ◌++◌, ◌∷◌, ◌+◌, [], length, length-append, arith}
+use Rattle.std.proofs.Common.{None, sym, ap, ◌∙◌, ◌++◌, ◌∷◌, ◌+◌, [], length, length-append, arith}
 use Rattle.ph_items.specs.declared.orders.Order.{Order}
 use Rattle.ph_rows.specs.Weights.{rows_weight}
 use Rattle.ph_book.specs.declared.acts.Deed.TheVariants as deed
 use Rattle.ph_book.specs.History.{Effect, outcome_rows, ruled_outcome}
 use Rattle.ph_book.specs.Replies.{Replies, ruling_reply}
 use Rattle.ph_book.proofs.HistoryLemmas.{book_is}
-use Rattle.ph_book.proofs.StepLemmas.{finish_book, finish_is, held_entry, held_live}
+use Rattle.ph_book.proofs.ReplyLemmas.{finish_ruled}
+use Rattle.ph_book.proofs.StepLemmas.{finish_book, finish_is, held_live}
 use Rattle.ph_book.proofs.book.Book.finish.Goals as goal
 
 pub one_less-live-requires : goal.one_less-live-requires
 one_less-live-requires c = held_live _ _ _ _ _ _ _ _ c.args.caller c.args.ticket c.self.view_is c.self.invariant.0 c.requires.own
-
-pub settle-requires : goal.settle-requires
-settle-requires c = record { live = held_entry _ _ _ _ _ _ _ _ c.args.caller c.args.ticket c.self.view_is c.self.invariant.0 c.requires.own }
 
 pub invariant_of-self-2 : goal.invariant_of-self-2
 invariant_of-self-2 c =
     let store = c.self.inside.store in
     let room = c.self.invariant.1 in
     let place = ap (λ n. n + 1) (c.len.ensures ∙ c.self.inside.entries.ok.0) in
-    let made = ap (λ (o : Order). outcome_rows (ruled_outcome store.rows store.time (c.len.result + 1) o.reference c.args.ruling)) (sym c.order.ensures)
+    let made = ap (λ (o : Order). outcome_rows None (ruled_outcome store.rows store.time (c.len.result + 1) o.reference c.args.ruling)) (sym c.order.ensures)
     ∙ sym c.in-Ok.ensures.rows in
     let entries = c.push_reserved.ensures.items
     ∙ ap (λ history. history ++ record { caller = c.args.caller; deed = deed.Finish c.run-run.result c.args.ruling } ∷ []) c.in-Ok-take_room.ensures.entries
@@ -49,3 +47,14 @@ returns-clause-said c =
     ∙ ap Replies
     (ap (λ (o : Order). ruling_reply store.time store.rows c.args.ruling (ruled_outcome store.rows store.time (c.len.result + 1) o.reference c.args.ruling)) (sym c.order.ensures)
     ∙ sym c.in-Ok.ensures.reply)
+
+pub returns-clause-ruled : goal.returns-clause-ruled
+returns-clause-ruled c =
+    let store = c.self.inside.store in
+    let place = ap (λ n. n + 1) (c.len.ensures ∙ c.self.inside.entries.ok.0) in
+    let said =
+    ap (λ (effect : Effect). effect.said) (finish_is _ _ _ _ _ _ _ _ _ c.args.caller c.args.ticket c.args.ruling c.self.view_is c.self.invariant.0 c.requires.own place)
+    ∙ ap Replies
+    (ap (λ (o : Order). ruling_reply store.time store.rows c.args.ruling (ruled_outcome store.rows store.time (c.len.result + 1) o.reference c.args.ruling)) (sym c.order.ensures)
+    ∙ sym c.in-Ok.ensures.reply) in
+    finish_ruled _ _ _ _ _ _ _ _ c.args.caller c.args.ticket c.args.ruling c.in-Ok.ending.reply c.self.view_is c.self.invariant.0 c.requires.own said

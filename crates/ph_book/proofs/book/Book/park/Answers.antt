@@ -1,8 +1,8 @@
-use Rattle.std.proofs.Common.{refl, sym, ap, ◌∙◌, ◌++◌, ◌∷◌, ◌+◌, [], length, length-append, option_to_list, arith}
+use Rattle.std.proofs.Common.{None, refl, sym, ap, ◌∙◌, ◌++◌, ◌∷◌, ◌+◌, [], length, length-append, option_to_list, arith}
 use Rattle.ph_items.specs.declared.orders.Order.{Order}
 use Rattle.ph_rows.specs.Weights.{rows_weight}
 use Rattle.ph_book.specs.declared.acts.Deed.TheVariants as deed
-use Rattle.ph_book.specs.History.{Effect, parked_rows}
+use Rattle.ph_book.specs.History.{Effect, outcome_rows, parked_outcome}
 use Rattle.ph_book.specs.Replies.{Replies}
 use Rattle.ph_book.proofs.HistoryLemmas.{book_is}
 use Rattle.ph_book.proofs.StepLemmas.{park_book, park_is, parked_weight, held_entry, held_live}
@@ -20,7 +20,7 @@ invariant_of-self c =
     let room = c.self.invariant.1 in
     let place = length c.self.inside.entries.items + 1 in
     let row = option_to_list c.parked_row-row.result in
-    let made = ap (λ (o : Order). parked_rows store.rows store.time place o.reference) (sym c.order.ensures) ∙ sym (c.parked_row-row.ensures place) in
+    let made = ap (λ (o : Order). outcome_rows None (parked_outcome store.rows store.time place o.reference)) (sym c.order.ensures) ∙ sym (c.parked_row-row.ensures place) in
     let parked = parked_weight store.rows store.time place c.args.ticket.order.reference in
     let weighs = sym (ap rows_weight made) ∙ parked.0 in
     let size = ap length made in

@@ -1,0 +1,124 @@
+-- What requests come to keeps the rows sound, by the law of each call.
+use Rattle.std.proofs.Common.{◌≡◌, ℕ, ◌+◌, ◌≤◌, Bool, true, false, cond, not, nat_lt, List, Option, None, Some, Result, Ok, Err, refl, arith, codes, IfOk}
+use Rattle.std.proofs.lemmas.Bool.Decides.{nat_tests}
+use Rattle.ph_base.specs.declared.ids.Kind.{Kind}
+use Rattle.ph_base.specs.declared.ids.Kind.TheVariants as kind
+use Rattle.ph_errors.specs.declared.api_error.ApiError.{ApiError}
+use Rattle.ph_errors.specs.Table.{ClockBackwards, InvalidApiKey, NoSuchAccount, error_of}
+use Rattle.ph_items.specs.Accounts.{platform}
+use Rattle.ph_items.specs.Clocks.{clock_limit}
+use Rattle.ph_rows.specs.declared.rows.Row.{Row}
+use Rattle.ph_rows.specs.Names.{owned_named}
+use Rattle.ph_rows.specs.Views.{ViewState}
+use Rattle.ph_facts.specs.Keeps.{IsReady, KeepsRows, batch_after, is_refusal, most_rows}
+use Rattle.ph_facts.specs.Outcomes.{Outcome, Refuses, Adds}
+use Rattle.ph_facts.specs.Sound.{IsSound}
+use Rattle.ph_facts.proofs.DoneLemmas.{kept_few, no_object, nothing_added}
+use Rattle.ph_http.specs.declared.message.Raw.{Raw}
+use Rattle.ph_kinds.specs.declared.authentication.Authentication.{Authentication}
+use Rattle.ph_kinds.specs.declared.authentication.Authentication.TheVariants.{Succeeded, Failed}
+use Rattle.ph_calls.specs.declared.call.Authenticate.{Authenticate}
+use Rattle.ph_calls.specs.declared.call.Call.{Call}
+use Rattle.ph_calls.specs.declared.call.Call.TheVariants as call
+use Rattle.ph_calls.specs.Reading.{reading_of}
+use Rattle.ph_calls.specs.Fit as calls
+use Rattle.ph_calls.proofs.FitLemmas.{reading_fit}
+
+use Rattle.ph_disputes.specs.Answers.{evidence_outcome}
+use Rattle.ph_disputes.specs.Closing.{close_outcome}
+use Rattle.ph_intents.specs.Cancel.{cancel_outcome}
+use Rattle.ph_intents.specs.Capture.{capture_outcome}
+use Rattle.ph_intents.specs.Confirm.{confirm_outcome}
+use Rattle.ph_intents.specs.Update.{update_outcome}
+use Rattle.ph_refunds.specs.Refunds.{refund_outcome}
+use Rattle.ph_intents.specs.Create.{create_confirmed_outcome, create_outcome}
+use Rattle.ph_intents.proofs.CaptureLemmas.{capture_keeps}
+use Rattle.ph_intents.proofs.KeepsLemmas.{create_keeps, create_confirmed_keeps, update_keeps, confirm_keeps, authenticate_keeps, fail_authentication_keeps, cancel_keeps}
+use Rattle.ph_refunds.proofs.LawLemmas.{refund_keeps}
+use Rattle.ph_disputes.proofs.AnswerLemmas.{close_keeps, evidence_keeps}
+use Rattle.ph_disputes.proofs.OpeningLemmas.{open_due_keeps}
+use Rattle.ph_book.specs.Calls.{Upshot, Rejects, Makes, Shows, Sets, and_opened, authenticated, called_at, carried, clock_set, found_outcome, is_key, is_platform, read_upshot, retrieved}
+use Rattle.ph_book.proofs.ErrorLemmas.{IfRefused, IsAnswered, answered, chosen, reading_answered}
+
+-- the error of a request that is no call can be answered; what a call comes to keeps the rows sound; or the clock is set to a moment
+-- that it may show
+abbrev pub KeepsCall : ViewState → Upshot → Type 0
+KeepsCall state (Rejects error) = IsAnswered error
+KeepsCall state (Makes outcome) = KeepsRows state most_rows outcome
+KeepsCall state (Shows doc) = Unit {0}
+KeepsCall state (Sets moment) = (state.time ≤ moment) × (moment ≤ clock_limit)
+
+-- a retrieve
+retrieved_keeps : (state : ViewState) (entry : ℕ) (wanted : Kind) (id : List ℕ) → IsSound state
+    → KeepsRows state most_rows (retrieved state.rows wanted id (batch_after state entry))
+retrieved_keeps state entry wanted id sound = kept_few state 0 most_rows (retrieved state.rows wanted id (batch_after state entry)) (at (owned_named state.rows platform wanted id)) (omega arith)
+  where
+    at : (found : Option Row) → KeepsRows state 0 (found_outcome found (batch_after state entry))
+    at None = no_object (codes "id")
+    at (Some row) = (nothing_added state entry sound, tt)
+
+-- an outcome with the dispute that is due
+opened_keeps : (state : ViewState) (most : ℕ) (outcome : Outcome) → IsReady state → most + 4 ≤ most_rows → KeepsRows state most outcome
+    → KeepsRows state most_rows (and_opened state.rows outcome)
+opened_keeps state most (Refuses error) ready less keeps = keeps
+opened_keeps state most (Adds touch object batch) ready less keeps =
+    let few = (keeps.0).few in
+    let room = ready.room in
+    kept_few state (most + 4) most_rows (and_opened state.rows (Adds touch object batch))
+    (open_due_keeps state most touch batch object ready.sound keeps.0 (omega arith), keeps.1) less
+
+authenticated_keeps : (state : ViewState) (entry : ℕ) (c : Authenticate) (outcome : Authentication) → IsReady state
+    → KeepsRows state 2 (authenticated state.rows c (batch_after state entry) outcome)
+authenticated_keeps state entry c Succeeded ready = authenticate_keeps state entry platform c ready refl
+authenticated_keeps state entry c Failed ready = fail_authentication_keeps state entry platform c ready refl
+
+backwards : is_refusal (error_of ClockBackwards) ≡ true
+unfolding error_of
+backwards = refl
+
+clock_keeps : (state : ViewState) (moment : ℕ) → moment ≤ clock_limit → KeepsCall state (clock_set state.time moment)
+clock_keeps state moment shown = at (nat_lt moment state.time) refl
+  where
+    at : (test : Bool) → nat_lt moment state.time ≡ test → KeepsCall state (cond test (Makes (Refuses (error_of ClockBackwards))) (Sets moment))
+    at true e = backwards
+    at false e = (grind (arith, nat_tests), shown)
+
+-- a call that is carried out: one line for each row of the table of calls
+carried_keeps : (state : ViewState) (entry : ℕ) (c : Call) → IsReady state → calls.IsFit c → KeepsCall state (carried state.rows state.time c (batch_after state entry))
+carried_keeps state entry (call.CreateIntent c) ready fit =
+    chosen (KeepsRows state most_rows) c.confirm (create_confirmed_outcome state.rows platform c (batch_after state entry))
+    (create_outcome state.rows platform c (batch_after state entry))
+    (kept_few state 3 most_rows (create_confirmed_outcome state.rows platform c (batch_after state entry)) (create_confirmed_keeps state entry platform c ready fit.texts) (omega arith))
+    (kept_few state 2 most_rows (create_outcome state.rows platform c (batch_after state entry)) (create_keeps state entry platform c ready fit.texts) (omega arith))
+carried_keeps state entry (call.GetIntent c) ready fit = retrieved_keeps state entry kind.Intent c.id ready.sound
+carried_keeps state entry (call.UpdateIntent c) ready fit = kept_few state 1 most_rows (update_outcome state.rows platform c (batch_after state entry)) (update_keeps state entry platform c ready fit.texts) (omega arith)
+carried_keeps state entry (call.ConfirmIntent c) ready fit = kept_few state 2 most_rows (confirm_outcome state.rows platform c (batch_after state entry)) (confirm_keeps state entry platform c ready fit.texts) (omega arith)
+carried_keeps state entry (call.CaptureIntent c) ready fit =
+    opened_keeps state 5 (capture_outcome state.rows platform c (batch_after state entry)) ready (omega arith) (capture_keeps state entry platform c ready refl)
+carried_keeps state entry (call.CancelIntent c) ready fit = kept_few state 2 most_rows (cancel_outcome state.rows platform c (batch_after state entry)) (cancel_keeps state entry platform c ready refl) (omega arith)
+carried_keeps state entry (call.GetCharge c) ready fit = retrieved_keeps state entry kind.Charge c.id ready.sound
+carried_keeps state entry (call.CreateRefund c) ready fit = kept_few state 4 most_rows (refund_outcome state.rows platform c (batch_after state entry)) (refund_keeps state entry platform c ready fit.texts) (omega arith)
+carried_keeps state entry (call.GetRefund c) ready fit = retrieved_keeps state entry kind.Refund c.id ready.sound
+carried_keeps state entry (call.GetDispute c) ready fit = retrieved_keeps state entry kind.Dispute c.id ready.sound
+carried_keeps state entry (call.SendEvidence c) ready fit = kept_few state 3 most_rows (evidence_outcome state.rows platform c (batch_after state entry)) (evidence_keeps state entry platform c ready fit.texts) (omega arith)
+carried_keeps state entry (call.CloseDispute c) ready fit = kept_few state 2 most_rows (close_outcome state.rows platform c (batch_after state entry)) (close_keeps state entry platform c ready refl) (omega arith)
+carried_keeps state entry (call.GetBalance c) ready fit = tt
+carried_keeps state entry (call.GetTxn c) ready fit = retrieved_keeps state entry kind.Txn c.id ready.sound
+carried_keeps state entry (call.SetClock c) ready fit = clock_keeps state c.now fit.shown
+carried_keeps state entry (call.Authenticate c) ready fit = kept_few state 2 most_rows (authenticated state.rows c (batch_after state entry) c.outcome) (authenticated_keeps state entry c c.outcome ready) (omega arith)
+
+read_keeps : (state : ViewState) (entry : ℕ) (reading : Result Call ApiError) → IsReady state → IfRefused reading → IfOk reading calls.IsFit
+    → KeepsCall state (read_upshot state.rows state.time reading (batch_after state entry))
+read_keeps state entry (Err error) ready refused fit = refused
+read_keeps state entry (Ok c) ready refused fit = carried_keeps state entry c ready fit
+
+-- what a request comes to
+pub called_keeps : (key : List ℕ) (state : ViewState) (entry : ℕ) (raw : Raw) → IsReady state
+    → KeepsCall state (called_at key state.rows state.time entry raw)
+unfolding called_at
+called_keeps key state entry raw ready =
+    let read : Upshot = read_upshot state.rows state.time (reading_of raw) (batch_after state entry) in
+    chosen (KeepsCall state) (not (is_key key raw.auth)) (Rejects (error_of InvalidApiKey))
+    (cond (not (is_platform raw.account)) (Rejects (error_of NoSuchAccount)) read) (answered InvalidApiKey)
+    (chosen (KeepsCall state) (not (is_platform raw.account)) (Rejects (error_of NoSuchAccount)) read (answered NoSuchAccount)
+    (read_keeps state entry (reading_of raw) ready (reading_answered raw) (reading_fit raw)))

@@ -1,0 +1,9 @@
+use Rattle.ph_doings.proofs.LawProofs.{references_differ}
+use Rattle.ph_book.specs.History.{doings_of}
+use Rattle.ph_book.proofs.StandLemmas.{history_stands}
+use Rattle.ph_book.proofs.laws.references_differ.Goals as goal
+
+pub returns : goal.returns
+returns c =
+    let stands = history_stands c.args.setup.now c.args._history.now c.few_entries.ensures c.requires in
+    references_differ (doings_of c.args.setup.now c.args._history.now) stands.lawful

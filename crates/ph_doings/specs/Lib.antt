@@ -1,0 +1,14 @@
+pub mod Doings
+pub mod Statuses
+pub mod Standings
+pub mod Runs
+pub mod Confirmations
+pub mod Parks
+pub mod Kept
+pub mod Lawful
+pub mod Laws
+pub mod Ends
+pub mod Records
+pub mod RecordLaws
+pub mod Rows
+pub mod Worked
