@@ -3,8 +3,6 @@
 
 mod address;
 mod reading;
-#[cfg(test)]
-mod tests;
 
 pub use address::Address;
 pub use reading::read_address;

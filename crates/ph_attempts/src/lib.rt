@@ -13,6 +13,3 @@ pub use laws::{
 pub use ph_base::{Decline, Method, Ruling, Why};
 pub use ph_items::Order;
 pub use unsettled::Attempts;
-
-#[cfg(test)]
-mod tests;

@@ -14,6 +14,3 @@ pub use laws::{answered_as_at_first, counts_are_sums, same_while_remembered};
 pub use memory::{Cue, Decision, MemAcquirer};
 pub use patience::{Patience, Turns};
 pub use simulated::{Remembered, SimAcquirer};
-
-#[cfg(test)]
-mod tests;

@@ -7,8 +7,6 @@ mod id_text;
 mod ids;
 mod memory;
 mod numbers;
-#[cfg(test)]
-mod tests;
 
 pub use acquirer::{Decline, Method, Ruling, Why};
 pub use byte_list::Bytes;

@@ -34,7 +34,7 @@ use Rattle.ph_items.specs.declared.event_kinds.EventKind.TheVariants as event
 use Rattle.ph_items.specs.declared.intents.CancellationReason.{CancellationReason}
 use Rattle.ph_items.specs.declared.intents.PaymentError.TheVariants as payment_error
 use Rattle.ph_rows.specs.Batches.{BatchState, empty_batch, last_place, next_row, version_with, with_announced, with_row, event_rows, made_rows}
-use Rattle.ph_items.specs.Items.{attempt_in, charge_in, dispute_in, intent_in}
+use Rattle.ph_items.specs.Items.{attempt_in, card_charge_in, charge_in, dispute_in, intent_in}
 use Rattle.ph_rows.specs.Names.{object_named, owned_named}
 use Rattle.ph_rows.specs.Rows.{later_version, latest_of}
 use Rattle.ph_http.specs.declared.message.Raw.{Raw}
@@ -353,7 +353,7 @@ opened_of_small P other count most account object (Some charge) batch small =
 opened_in_small : (P : Item → Type 0) → ((content : Item) → IsNoAttempt content → P content) → (count most object : ℕ) (found : Option Row) (batch : BatchState)
     → IsSmall P count most batch → IsSmall P count (most + 4) (opening_in object batch found)
 opened_in_small P other count most object None batch small = small_most P count most (most + 4) batch small (omega arith)
-opened_in_small P other count most object (Some row) batch small = opened_of_small P other count most row.account object (charge_in row.item) batch small
+opened_in_small P other count most object (Some row) batch small = opened_of_small P other count most row.account object (card_charge_in row.item) batch small
 
 opened_small : (P : Item → Type 0) → ((content : Item) → IsNoAttempt content → P content) → (rows : List Row) (count most : ℕ) (due : Option ℕ) (batch : BatchState)
     → IsSmall P count most batch → IsSmall P count (most + 4) (opening_due rows batch due)

@@ -11,8 +11,6 @@ mod room;
 mod setup;
 mod spares;
 mod store;
-#[cfg(test)]
-mod tests;
 mod weights;
 
 pub use acts::{Act, Answer, Deed, Entry};

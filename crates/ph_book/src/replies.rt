@@ -1,7 +1,6 @@
 //! Replies.
 ghost use Rattle.std.specs.Prelude.{◌≡◌, None, IfOk};
 ghost use Rattle.std.specs.Option.{option_copied};
-ghost use Rattle.ph_rows.specs.Batches.{version_with};
 ghost use Rattle.ph_book.specs.Replies.{declined_reply, doc_reply, error_reply_with, nothing_reply, settled_reply, shown_reply, text_reply, version_reply};
 
 use crate::store::Store;
@@ -9,7 +8,7 @@ use ph_base::{Bytes, Decline, NoMemory, Ruling};
 use ph_errors::{ApiError, body};
 use ph_http::Reply;
 use ph_json::{Doc, text};
-use ph_rows::{Batch, Row, View};
+use ph_rows::{Batch, Row, version_with};
 use ph_views::{item_doc, item_text};
 use std::alloc::Global;
 
@@ -59,16 +58,6 @@ fn version_reply(alloc: Global, store: &Store, row: Option<&Row>) -> Result<Repl
     match row {
         None => nothing_reply(alloc),
         Some(row) => Ok(text_reply(item_text(alloc, store, row)?)),
-    }
-}
-
-// The last version of an object: in the batch of the entry where it stands there, and else in the store.
-fn version_with<'a>(store: &'a Store, batch: &'a Batch, object: u64) -> Option<&'a Row>
-    ensures { option_copied result ≡ version_with store.now.rows batch.now object }
-{
-    match batch.latest(object) {
-        Some(row) => Some(row),
-        None => store.latest(object),
     }
 }
 

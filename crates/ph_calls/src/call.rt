@@ -6,7 +6,7 @@ use ph_kinds::{Authentication, Meta};
 use ph_money::{Amount, Currency};
 
 /// `POST /v1/payment_intents`
-#[derive(Drop, Debug)]
+#[derive(Drop)]
 pub struct CreateIntent {
     /// In minor units of the currency, not below its minimum.
     pub amount: Amount,
@@ -23,7 +23,7 @@ pub struct CreateIntent {
 }
 
 /// `POST /v1/payment_intents/{id}`: what it doesn't name stays.
-#[derive(Drop, Debug)]
+#[derive(Drop)]
 pub struct UpdateIntent {
     /// The segment of the path, which is read as an id when the call is carried out.
     pub id: Bytes,
@@ -39,7 +39,7 @@ pub struct UpdateIntent {
 }
 
 /// `POST /v1/payment_intents/{id}/confirm`
-#[derive(Drop, Debug)]
+#[derive(Drop)]
 pub struct ConfirmIntent {
     /// The segment of the path, which is read as an id when the call is carried out.
     pub id: Bytes,
@@ -48,7 +48,7 @@ pub struct ConfirmIntent {
 }
 
 /// `POST /v1/payment_intents/{id}/capture`
-#[derive(Drop, Debug)]
+#[derive(Drop)]
 pub struct CaptureIntent {
     /// The segment of the path, which is read as an id when the call is carried out.
     pub id: Bytes,
@@ -57,7 +57,7 @@ pub struct CaptureIntent {
 }
 
 /// `POST /v1/payment_intents/{id}/cancel`
-#[derive(Drop, Debug)]
+#[derive(Drop)]
 pub struct CancelIntent {
     /// The segment of the path, which is read as an id when the call is carried out.
     pub id: Bytes,
@@ -65,7 +65,7 @@ pub struct CancelIntent {
 }
 
 /// `POST /v1/refunds`, of a charge or of the latest charge of a payment intent: exactly one of the two is named.
-#[derive(Drop, Debug)]
+#[derive(Drop)]
 pub struct CreateRefund {
     /// Read as an id when the call is carried out.
     pub charge: Option<Bytes>,
@@ -78,7 +78,7 @@ pub struct CreateRefund {
 }
 
 /// `POST /v1/disputes/{id}`: evidence against a dispute.
-#[derive(Drop, Debug)]
+#[derive(Drop)]
 pub struct SendEvidence {
     /// The segment of the path, which is read as an id when the call is carried out.
     pub id: Bytes,
@@ -87,14 +87,14 @@ pub struct SendEvidence {
 }
 
 /// `POST /v1/disputes/{id}/close`: the dispute is given up.
-#[derive(Drop, Debug)]
+#[derive(Drop)]
 pub struct CloseDispute {
     /// The segment of the path, which is read as an id when the call is carried out.
     pub id: Bytes,
 }
 
 /// `GET` of an object, as `/v1/charges/{id}`: it is shown.
-#[derive(Drop, Debug)]
+#[derive(Drop)]
 pub struct Retrieve {
     pub kind: Kind,
     /// The segment of the path, which is read as an id when the call is carried out.
@@ -102,18 +102,18 @@ pub struct Retrieve {
 }
 
 /// `GET /v1/balance`
-#[derive(Drop, Debug)]
+#[derive(Drop)]
 pub struct GetBalance {}
 
 /// `POST /_host/clock`: payhost's own, which sets the time.
-#[derive(Drop, Debug)]
+#[derive(Drop)]
 pub struct SetClock {
     /// In seconds since the beginning of 1970, at most 253402300799, the last second of the year 9999.
     pub now: u64,
 }
 
 /// `POST /_host/payment_intents/{id}/authenticate`: payhost's own, in place of the customer's bank.
-#[derive(Drop, Debug)]
+#[derive(Drop)]
 pub struct Authenticate {
     /// The segment of the path, which is read as an id when the call is carried out.
     pub id: Bytes,
@@ -121,7 +121,7 @@ pub struct Authenticate {
 }
 
 /// A call of the API: one variant for each name that the rows of the table of calls have.
-#[derive(Drop, Debug)]
+#[derive(Drop)]
 pub enum Call {
     CreateIntent(CreateIntent),
     UpdateIntent(UpdateIntent),

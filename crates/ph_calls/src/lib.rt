@@ -14,8 +14,6 @@ mod refunds;
 mod route;
 mod row;
 mod table;
-#[cfg(test)]
-mod tests;
 
 pub use call::{
     Authenticate, Call, CancelIntent, CaptureIntent, CloseDispute, ConfirmIntent, CreateIntent,

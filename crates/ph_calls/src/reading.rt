@@ -23,7 +23,7 @@ use ph_http::Raw;
 use std::alloc::Global;
 
 /// A request that is a call.
-#[derive(Drop, Debug)]
+#[derive(Drop)]
 pub struct Request {
     pub call: Call,
     /// The form of its query and its body, which the call was read from.

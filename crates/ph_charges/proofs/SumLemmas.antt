@@ -100,7 +100,7 @@ held_sums rows n p a k charge free new =
 
 -- rows with a version of a charge behind them, and the transaction of all that was captured of it
 captured_sums : (rows : List Row) (n p a k : ℕ) (charge : Charge) (q o b l : ℕ) (txn : Txn) → (o ≡ n → ⊥)
-    → given (pos 0) n (captured.part (item.Txn txn)) ≡ pos charge.amount_captured → IsFree n rows → charge.amount_refunded ≡ 0
+    → given (pos 0) n (captured.adds (item.Txn txn)) ≡ pos charge.amount_captured → IsFree n rows → charge.amount_refunded ≡ 0
     → SaysSums n (rows ++ charge_row p n a k charge ∷ txn_row q o b l txn ∷ [])
 captured_sums rows n p a k charge q o b l txn other takes free no_refund =
     let was_captured : captured_of n rows ≡ pos 0 = free.captured in
@@ -108,7 +108,7 @@ captured_sums rows n p a k charge q o b l txn other takes free no_refund =
     record {
       captured = sum_known captured n rows (charge_row p n a k charge ∷ txn_row q o b l txn ∷ []) (charge_row p n a k charge)
           (pos charge.amount_captured) captured_sum latest refl
-          (let right : pos charge.amount_captured ≡ captured_of n rows +ℤ (pos 0 +ℤ (given (pos 0) n (captured.part (item.Txn txn)) +ℤ pos 0)) =
+          (let right : pos charge.amount_captured ≡ captured_of n rows +ℤ (pos 0 +ℤ (given (pos 0) n (captured.adds (item.Txn txn)) +ℤ pos 0)) =
           omega (arith, ints) in right);
       refunded = sum_known refunded n rows (charge_row p n a k charge ∷ txn_row q o b l txn ∷ []) (charge_row p n a k charge)
           charge.amount_refunded refunded_sum latest refl
@@ -124,7 +124,7 @@ captured_sums rows n p a k charge q o b l txn other takes free no_refund =
 
 -- the transaction of a captured amount captures it of its charge
 takes_all : (n : ℕ) (charge : Charge) (amount now : ℕ)
-    → given (pos 0) n (captured.part (item.Txn (charge_txn n charge amount now))) ≡ pos amount
+    → given (pos 0) n (captured.adds (item.Txn (charge_txn n charge amount now))) ≡ pos amount
 takes_all n charge amount now = cond-true (eqb n n) (pos amount) (pos 0) (eq-eqb n n refl)
 
 -- two rows behind two lists

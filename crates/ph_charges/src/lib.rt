@@ -5,8 +5,6 @@ mod approvals;
 mod captures;
 mod charges;
 mod splits;
-#[cfg(test)]
-mod tests;
 
 pub use approvals::{approve, decline};
 pub use captures::capture;

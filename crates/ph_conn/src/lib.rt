@@ -7,8 +7,6 @@ mod endings;
 mod reads;
 mod rules;
 mod sessions;
-#[cfg(test)]
-mod tests;
 mod texts;
 
 pub use endings::{Closed, Stop, TalkError};

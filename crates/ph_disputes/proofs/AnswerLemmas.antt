@@ -24,14 +24,14 @@ use Rattle.ph_facts.specs.Amounts.{given_move, moved, moves_in, moves_of, taken_
 use Rattle.ph_facts.specs.Entering.{IsToldBy, MayBeEntered}
 use Rattle.ph_facts.specs.Keeps.{AddsSound, IsReady, KeepsSound, batch_after, no_texts}
 use Rattle.ph_facts.specs.Order.{AllMayFollow, IsInOrder, MayFollow, with_next}
-use Rattle.ph_facts.specs.Origins.{IsOrigin}
+use Rattle.ph_facts.specs.Origins.{HasOrigins, IsOrigin, origins_of}
 use Rattle.ph_facts.specs.Outcomes.{Refuses, Adds}
 use Rattle.ph_facts.specs.Tallies.{SaysSum}
 use Rattle.ph_facts.proofs.AmountLemmas.{moved_sum}
 use Rattle.ph_facts.proofs.FollowLemmas.{first_follows, further_follows}
 use Rattle.ph_facts.proofs.HeldLemmas.{held_beside}
 use Rattle.ph_facts.proofs.LawLemmas.{laws_of_dispute}
-use Rattle.ph_facts.proofs.OrderLemmas.{order_with, order_with_all, origin_stands, texts_stand}
+use Rattle.ph_facts.proofs.OrderLemmas.{order_with, order_with_all, origin_stands, origins_stand, texts_stand}
 use Rattle.ph_facts.proofs.TallyLemmas.{sum_known}
 use Rattle.ph_disputes.specs.Answers.{answered_dispute, evidence_of, evidence_outcome, given_txn, verdict_on, with_evidence, with_verdict}
 use Rattle.ph_disputes.specs.Closing.{close_of, close_outcome, lost_dispute, with_closed, with_version}
@@ -49,7 +49,7 @@ open_moves status.Lost amount e = refl
 -- a further version of a dispute that isn't closed, behind the rows of a view
 module _ (state : ViewState) (entry : ℕ) (row : Row) (dispute after : Dispute) (ready : IsReady state)
     (found : IsFound state.rows row dispute) (open_still : is_closed dispute.status ≡ false)
-    (texts : list_all is_utf8 (texts_of (item.Dispute after)) ≡ true) where
+    (texts : list_all is_utf8 (texts_of (item.Dispute after)) ≡ true) (of_it : after.charge ≡ dispute.charge) where
   abbrev begun : BatchState
   begun = batch_after state entry
 
@@ -62,11 +62,16 @@ module _ (state : ViewState) (entry : ℕ) (row : Row) (dispute after : Dispute)
   abbrev version : Row
   version = next_row begun row.object row.account (item.Dispute after)
 
+  named : HasOrigins state.rows (origins_of (item.Dispute after))
+  named =
+      subst (λ (n : ℕ). HasOrigins state.rows (record { kind = kind.Charge; number = n } ∷ [])) (sym of_it)
+      (origins_stand state row (item.Dispute dispute) order found.stands found.is)
+
   version_follows : MayFollow state version
   version_follows =
       further_follows state row version order found.stands
       (record { few = omega arith; place = omega arith; at = refl })
-      (record { texts = texts; within = tt; origins = tt; silent = λ event is. absurd (cc) })
+      (record { texts = texts; within = tt; origins = named; silent = λ event is. absurd (cc) })
       (record { object = refl; account = refl; kind = sym (ap kind_of found.is) }) refl
 
   taken : moves_of row.object state.rows ≡ taken_move dispute.amount ∷ []
@@ -81,18 +86,18 @@ module _ (state : ViewState) (entry : ℕ) (row : Row) (dispute after : Dispute)
   pub version_enters : taken_move dispute.amount ∷ [] ≡ moves_in after.status after.amount
       → MayBeEntered state (with_version row after begun)
   version_enters same =
-    let says : SaysSum moved row.object (state.rows ++ version ∷ []) =
-    sum_known moved row.object state.rows (version ∷ []) version (moves_in after.status after.amount) moved_sum
-    (latest_of-front state.rows [] version refl) refl
-    (sym (append-nil (moves_of row.object state.rows) ∙ taken ∙ same)) in record {
-    began = refl;
-    at = refl;
-    follow = (version_follows, tt);
-    laws = laws_of_dispute state.rows (version ∷ []) row.object ready.sound.laws says
-        (λ other differs. ap (λ (b : Bool). b || false) (ne_eqb row.object other (λ alike. differs (sym alike)))) refl
-        (held_beside state (version ∷ []) order alone_in_order (tt, tt) ready.sound.laws.held);
-    told = tt;
-  }
+      let says : SaysSum moved row.object (state.rows ++ version ∷ []) =
+      sum_known moved row.object state.rows (version ∷ []) version (moves_in after.status after.amount) moved_sum
+      (latest_of-front state.rows [] version refl) refl
+      (sym (append-nil (moves_of row.object state.rows) ∙ taken ∙ same)) in record {
+        began = refl;
+        at = refl;
+        follow = (version_follows, tt);
+        laws = laws_of_dispute state.rows (version ∷ []) row.object ready.sound.laws says
+            (λ other differs. ap (λ (b : Bool). b || false) (ne_eqb row.object other (λ alike. differs (sym alike)))) refl
+            (held_beside state (version ∷ []) order alone_in_order (tt, tt) ready.sound.laws.held);
+        told = tt;
+      }
 
   told_of_version : (more : List Row) → list_any (is_version row.object) more ≡ false
       → IsToldBy (latest_of row.object (version ∷ more)) event.DisputeClosed
@@ -185,7 +190,7 @@ close_keeps state entry account call ready texts =
     (λ row dispute found.
     if_open_adds state dispute.status row.object
     (with_closed row (with_version row (lost_dispute dispute) (batch_after state entry)))
-    (λ still. closed_enters state entry row dispute (lost_dispute dispute) ready found still (kept row dispute found) refl))
+    (λ still. closed_enters state entry row dispute (lost_dispute dispute) ready found still (kept row dispute found) refl refl))
   where
     kept : (row : Row) (dispute : Dispute) → IsFound state.rows row dispute
         → list_all is_utf8 (texts_of (item.Dispute dispute)) ≡ true
@@ -195,19 +200,20 @@ close_keeps state entry account call ready texts =
 -- what follows from a verdict may be entered
 verdict_enters : (state : ViewState) (entry : ℕ) (row : Row) (dispute after : Dispute) (now : DisputeStatus) → IsReady state
     → IsFound state.rows row dispute → is_closed dispute.status ≡ false
-    → list_all is_utf8 (texts_of (item.Dispute after)) ≡ true → after.amount ≡ dispute.amount → after.status ≡ now
+    → list_all is_utf8 (texts_of (item.Dispute after)) ≡ true → after.charge ≡ dispute.charge → after.amount ≡ dispute.amount
+    → after.status ≡ now
     → MayBeEntered state (with_verdict now row dispute (with_version row after (batch_after state entry)))
-verdict_enters state entry row dispute after now ready found still texts amount is = at now is
+verdict_enters state entry row dispute after now ready found still texts of_it amount is = at now is
   where
     moves : (to : DisputeStatus) → after.status ≡ to → moves_in to dispute.amount ≡ moves_in after.status after.amount
     moves to e = ap (λ (s : DisputeStatus). moves_in s dispute.amount) (sym e) ∙ ap (moves_in after.status) (sym amount)
 
     at : (to : DisputeStatus) → after.status ≡ to
         → MayBeEntered state (with_verdict to row dispute (with_version row after (batch_after state entry)))
-    at status.NeedsResponse e = version_enters state entry row dispute after ready found still texts (moves status.NeedsResponse e)
-    at status.UnderReview e = version_enters state entry row dispute after ready found still texts (moves status.UnderReview e)
-    at status.Won e = won_enters state entry row dispute after ready found still texts (moves status.Won e)
-    at status.Lost e = closed_enters state entry row dispute after ready found still texts (moves status.Lost e)
+    at status.NeedsResponse e = version_enters state entry row dispute after ready found still texts of_it (moves status.NeedsResponse e)
+    at status.UnderReview e = version_enters state entry row dispute after ready found still texts of_it (moves status.UnderReview e)
+    at status.Won e = won_enters state entry row dispute after ready found still texts of_it (moves status.Won e)
+    at status.Lost e = closed_enters state entry row dispute after ready found still texts of_it (moves status.Lost e)
 
 -- what evidence adds may be entered
 pub evidence_keeps : KeepsSound evidence_texts evidence_outcome
@@ -217,4 +223,4 @@ evidence_keeps state entry account call ready texts =
     if_open_adds state dispute.status row.object (with_evidence call.uncategorized_text row dispute (batch_after state entry))
     (λ still.
     verdict_enters state entry row dispute (answered_dispute call.uncategorized_text dispute) (verdict_on call.uncategorized_text)
-    ready found still texts refl refl))
+    ready found still texts refl refl refl))

@@ -6,13 +6,17 @@ use Rattle.std.specs.Option.{option_or}
 use Rattle.std.proofs.lemmas.Bool.{eq-eqb, ne_eqb}
 use Rattle.std.proofs.lemmas.Int.{ints}
 use Rattle.std.proofs.lemmas.List.{append_assoc, length-append}
+use Rattle.ph_base.specs.declared.ids.Kind.{Kind}
 use Rattle.ph_base.specs.declared.ids.Kind.TheVariants as kind
 use Rattle.ph_items.specs.declared.charges.Charge.{Charge}
+use Rattle.ph_items.specs.declared.charges.ChargeSort.{ChargeSort}
+use Rattle.ph_items.specs.declared.charges.ChargeSort.TheVariants as charge_sort
 use Rattle.ph_items.specs.declared.event_kinds.EventKind.TheVariants as event
 use Rattle.ph_items.specs.declared.items.Item.{Item}
 use Rattle.ph_items.specs.declared.items.Item.TheVariants as item
 use Rattle.ph_items.specs.Disputes.{dispute_fee}
-use Rattle.ph_items.specs.Items.{charge_in}
+use Rattle.ph_items.specs.Charges.{charge_kind}
+use Rattle.ph_items.specs.Items.{card_charge_in, charge_in, if_card}
 use Rattle.ph_items.specs.Kinds.{kind_of}
 use Rattle.ph_rows.specs.declared.rows.Row.{Row}
 use Rattle.ph_rows.specs.declared.batches.Announced.{Announced}
@@ -48,7 +52,7 @@ taken_is amount = ap (λ z. record { amount = z; fee = pos dispute_fee }) (let s
 -- the rows of a dispute of a charge, behind sound rows and at the next places
 module _ (state : ViewState) (batch : BatchState) (row : Row) (charge : Charge) (sound : IsSound state)
     (room : length state.rows + 3 < 10 ^ 16) (last : last_place batch ≡ length state.rows) (now : batch.at ≡ state.time)
-    (found : IsCharge state.rows row charge) where
+    (found : IsCharge state.rows row charge) (card : charge_kind charge.sort ≡ kind.Charge) where
   abbrev pub number : ℕ
   number = last_place batch + 1
 
@@ -94,10 +98,15 @@ module _ (state : ViewState) (batch : BatchState) (row : Row) (charge : Charge) 
   count_taking : length taking.rows ≡ length disputing.rows + 1
   count_taking = length-append disputing.rows (txn ∷ [])
 
+  charged : IsOrigin (row_at row.object state.rows) (record { kind = kind.Charge; number = row.object })
+  charged =
+      subst (λ (k : Kind). IsOrigin (row_at row.object state.rows) (record { kind = k; number = row.object })) card
+      (origin_stands state row (item.Charge charge) order found.stands found.is)
+
   opened_follows : MayFollow state opened
   opened_follows =
       first_follows state opened (record { few = omega arith; place = omega arith; at = now }) (omega arith)
-      (record { texts = refl; within = tt; origins = tt; silent = λ event is. absurd (cc) })
+      (record { texts = refl; within = tt; origins = (charged, tt); silent = λ event is. absurd (cc) })
 
   order_second : IsInOrder second
   order_second = order_with state opened order opened_follows
@@ -248,17 +257,17 @@ whole_sound state batch sound enters = sound_with_all state batch.rows sound ent
 -- the opening of a dispute of a charge may be entered with the batch to which it is added
 opening_enters : (state : ViewState) (batch : BatchState) (row : Row) (charge : Charge) → IsSound state → MayBeEntered state batch
     → length state.rows + length batch.rows + 3 < 10 ^ 16 → IsCharge (state.rows ++ batch.rows) row charge
-    → MayBeEntered state (opening_rows row.account row.object charge (last_place batch + 1) batch)
-opening_enters state batch row charge sound enters room found = record {
+    → charge_kind charge.sort ≡ kind.Charge → MayBeEntered state (opening_rows row.account row.object charge (last_place batch + 1) batch)
+opening_enters state batch row charge sound enters room found card = record {
   began = enters.began;
   at = enters.at;
   follow = subst (AllMayFollow state) (sym grouped) (follow_both state batch.rows more enters.follow follows);
-  laws = subst KeepLaws (sym apart) (opening_laws whole batch row charge steady few last enters.at found);
+  laws = subst KeepLaws (sym apart) (opening_laws whole batch row charge steady few last enters.at found card);
   told = subst (λ (rows : List Row). AreTold rows (batch.announced ++ news ∷ [])) (sym grouped)
       (told_push (batch.rows ++ more) batch.announced news
       (told_with state batch.rows more batch.announced (order_with_all state (batch.rows ++ more) sound.order (follow_both state batch.rows more enters.follow follows)) enters.told)
       (subst (λ (o : Option Row). IsToldBy o event.DisputeCreated)
-      (sym (opening_latest whole batch row charge steady few last enters.at found batch.rows)) refl));
+      (sym (opening_latest whole batch row charge steady few last enters.at found card batch.rows)) refl));
 }
   where
     whole : ViewState
@@ -277,10 +286,10 @@ opening_enters state batch row charge sound enters room found = record {
     last = let counted = count in let began : batch.began ≡ length state.rows = enters.began in omega arith
 
     more : List Row
-    more = opening whole batch row charge steady few last enters.at found
+    more = opening whole batch row charge steady few last enters.at found card
 
     follows : AllMayFollow whole more
-    follows = opening_follows whole batch row charge steady few last enters.at found
+    follows = opening_follows whole batch row charge steady few last enters.at found card
 
     news : Announced
     news = record { sort = event.DisputeCreated; object = last_place batch + 1 }
@@ -305,6 +314,22 @@ fold_or object found (x ∷ more) =
     either None false = refl
     either (Some last) b = refl
 
+-- the card charge that an item is, is a charge of that kind
+card_in : (content : Item) (charge : Charge) → card_charge_in content ≡ Some charge
+    → (charge_in content ≡ Some charge) × (charge_kind charge.sort ≡ kind.Charge)
+card_in content charge e = at (charge_in content) e
+  where
+    by : (version : Charge) (sort : ChargeSort) → version.sort ≡ sort → if_card sort version ≡ Some charge
+        → (Some version ≡ Some charge) × (charge_kind charge.sort ≡ kind.Charge)
+    by version (charge_sort.Card intent) s e =
+        let same : version ≡ charge = cc in (e, ap (λ (c : Charge). charge_kind c.sort) (sym same) ∙ ap charge_kind s)
+    by version (charge_sort.Payment transfer) s e = absurd (cc)
+
+    at : (found : Option Charge) → option_and_then (λ (version : Charge). if_card version.sort version) found ≡ Some charge
+        → (found ≡ Some charge) × (charge_kind charge.sort ≡ kind.Charge)
+    at None e = absurd (cc)
+    at (Some version) e = by version version.sort refl e
+
 -- what the opening of a dispute of a charge adds may be entered
 pub open_keeps : OpeningKeepsSound open_of
 open_keeps state batch object sound enters room = at (version_with state.rows batch object) refl
@@ -312,18 +337,19 @@ open_keeps state batch object sound enters room = at (version_with state.rows ba
     latest : (row : Row) → version_with state.rows batch object ≡ Some row → latest_of object (state.rows ++ batch.rows) ≡ Some row
     latest row e = latest_from object None state.rows batch.rows ∙ fold_or object (latest_of object state.rows) batch.rows ∙ e
 
-    of_charge : (row : Row) → version_with state.rows batch object ≡ Some row → (o : Option Charge) → charge_in row.item ≡ o
+    of_charge : (row : Row) → version_with state.rows batch object ≡ Some row → (o : Option Charge) → card_charge_in row.item ≡ o
         → MayBeEntered state (opening_of row.account object batch o)
     of_charge row e None is = enters
     of_charge row e (Some charge) is =
         let steady = whole_sound state batch sound enters in
-        let found = charge_found (record state { rows = state.rows ++ batch.rows }) object row charge steady (latest row e) is in
+        let there = card_in row.item charge is in
+        let found = charge_found (record state { rows = state.rows ++ batch.rows }) object row charge steady (latest row e) there.0 in
         subst (λ (n : ℕ). MayBeEntered state (opening_rows row.account n charge (last_place batch + 1) batch)) found.1
-        (opening_enters state batch row charge sound enters room found.0)
+        (opening_enters state batch row charge sound enters room found.0 there.1)
 
     at : (o : Option Row) → version_with state.rows batch object ≡ o → MayBeEntered state (opening_in object batch o)
     at None e = enters
-    at (Some row) e = of_charge row e (charge_in row.item) refl
+    at (Some row) e = of_charge row e (card_charge_in row.item) refl
 
 -- what the opening of a dispute that is due adds may be entered
 pub open_due_keeps : OpeningKeepsSound open_due_of

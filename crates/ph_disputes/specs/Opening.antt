@@ -11,7 +11,7 @@ use Rattle.ph_items.specs.declared.transactions.Txn.{Txn}
 use Rattle.ph_items.specs.declared.transactions.TxnSource.TheVariants as source
 use Rattle.ph_items.specs.declared.transactions.TxnType.TheVariants as sort
 use Rattle.ph_rows.specs.Batches.{BatchState, last_place, version_with, with_row, with_announced}
-use Rattle.ph_items.specs.Items.{charge_in}
+use Rattle.ph_items.specs.Items.{card_charge_in}
 use Rattle.ph_items.specs.Disputes.{dispute_fee}
 
 -- the dispute of a charge: all that was captured of it, and no answer yet
@@ -60,7 +60,7 @@ opening_rows account object charge number batch =
     with_disputed account object charge number
     (with_taken account number charge (with_dispute account (new_dispute object charge) batch))
 
--- the batch with the opening of a dispute of a charge, where the item of a row is one
+-- the batch with the opening of a dispute of a card charge, where the item of a row is one
 abbrev pub opening_of : ℕ → ℕ → BatchState → Option Charge → BatchState
 opening_of account object batch None = batch
 opening_of account object batch (Some charge) = opening_rows account object charge (last_place batch + 1) batch
@@ -68,22 +68,22 @@ opening_of account object batch (Some charge) = opening_rows account object char
 -- the same for the version of the charge in a row, where there is one
 abbrev pub opening_in : ℕ → BatchState → Option Row → BatchState
 opening_in object batch None = batch
-opening_in object batch (Some row) = opening_of row.account object batch (charge_in row.item)
+opening_in object batch (Some row) = opening_of row.account object batch (card_charge_in row.item)
 
--- the number of the dispute that is opened: the next place, and 0 where the item of a row is no charge
-abbrev pub number_of : BatchState → Option Charge → ℕ
-number_of batch None = 0
-number_of batch (Some charge) = last_place batch + 1
+-- the number of the dispute that is opened: the next place, and 0 where the item of a row is no card charge
+abbrev pub opened_of : BatchState → Option Charge → ℕ
+opened_of batch None = 0
+opened_of batch (Some charge) = last_place batch + 1
 
 -- the same for the version of the charge in a row, where there is one
-abbrev pub number_in : BatchState → Option Row → ℕ
-number_in batch None = 0
-number_in batch (Some row) = number_of batch (charge_in row.item)
+abbrev pub opened_in : BatchState → Option Row → ℕ
+opened_in batch None = 0
+opened_in batch (Some row) = opened_of batch (card_charge_in row.item)
 
--- the number of the dispute that is opened of the charge of a number, and 0 where there is no such charge
+-- the number of the dispute that is opened of the card charge of a number, and 0 where there is no such charge
 abbrev pub opened_number : List Row → ℕ → BatchState → ℕ
-opened_number rows object batch = number_in batch (version_with rows batch object)
+opened_number rows object batch = opened_in batch (version_with rows batch object)
 
--- the opening of a dispute of the charge of a number, whose last version is in the batch or in the rows before it
+-- the opening of a dispute of the card charge of a number, whose last version is in the batch or in the rows before it
 abbrev pub open_of : List Row → ℕ → BatchState → BatchState
 open_of rows object batch = opening_in object batch (version_with rows batch object)

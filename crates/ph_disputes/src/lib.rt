@@ -7,8 +7,6 @@ mod due;
 mod finding;
 mod laws;
 mod opening;
-#[cfg(test)]
-mod tests;
 
 pub use answers::evidence;
 pub use closing::close;

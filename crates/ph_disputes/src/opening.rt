@@ -92,7 +92,7 @@ fn add_opening(
     Ok(number)
 }
 
-/// Opens a dispute of a charge, whose last version is in the batch or in the view: it adds the dispute, which is the
+/// Opens a dispute of a card charge, whose last version is in the batch or in the view: it adds the dispute, which is the
 /// next place, of all that was captured; the transaction that takes this amount and the fee of the dispute at once; the
 /// version of the charge that has the dispute; and the announcement `charge.dispute.created`. The answer is the
 /// dispute's number. Where there is no such charge nothing is added, and the answer is 0.
@@ -108,7 +108,7 @@ pub fn open<V: View>(
     let Some(row) = version_with(view, batch, charge) else {
         return Ok(0);
     };
-    let Some(version) = row.item.charge() else {
+    let Some(version) = row.item.card_charge() else {
         return Ok(0);
     };
     let account = row.account;

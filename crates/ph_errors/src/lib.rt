@@ -14,6 +14,3 @@ pub use fixed::Fixed;
 pub use kinds::{Code, ErrorKind, decline_code};
 pub use refusal::Refusal;
 pub use reply_body::{body, error_doc};
-
-#[cfg(test)]
-mod tests;

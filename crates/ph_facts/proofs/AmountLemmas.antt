@@ -16,7 +16,7 @@ use Rattle.ph_rows.specs.declared.rows.Row.{Row}
 use Rattle.ph_rows.specs.Rows.{row_at}
 use Rattle.ph_facts.specs.Amounts.{Move, captured, captured_by, moved, moved_by, refunded}
 use Rattle.ph_facts.specs.Origins.{HasOrigins, IsOrigin, origins_of}
-use Rattle.ph_facts.specs.Tallies.{Part}
+use Rattle.ph_facts.specs.Tallies.{Addition}
 use Rattle.ph_facts.proofs.OriginLemmas.{origin_within}
 use Rattle.ph_facts.proofs.TallyLemmas.{AddsToNamed, IsSum}
 
@@ -46,8 +46,8 @@ moved_sum = record {
 -- ---- what is added goes to objects that are named
 
 -- a transaction of a type adds to its source
-captured_to : (type : TxnType) (number : ℕ) (amount : ℤ) (part : Part ℤ) → captured_by type number amount ≡ Some part → part.object ≡ number
-captured_to sort.Charge number amount part e = let same : record { object = number; amount = amount } ≡ part = cc in sym (ap (λ (p : Part ℤ). p.object) same)
+captured_to : (type : TxnType) (number : ℕ) (amount : ℤ) (part : Addition ℤ) → captured_by type number amount ≡ Some part → part.object ≡ number
+captured_to sort.Charge number amount part e = let same : record { object = number; amount = amount } ≡ part = cc in sym (ap (λ (p : Addition ℤ). p.object) same)
 captured_to sort.Refund number amount part e = absurd (cc)
 captured_to sort.Adjustment number amount part e = absurd (cc)
 
@@ -72,18 +72,18 @@ refunded_named rows (item.Charge charge) part e there = absurd (cc)
 refunded_named rows (item.Refund refund) part e there =
     let within = origin_within rows (record { kind = kind.Charge; number = refund.charge }) there.0 in
     let same : record { object = refund.charge; amount = refund.amount } ≡ part = cc in
-    let to : refund.charge ≡ part.object = ap (λ (p : Part ℕ). p.object) same in
+    let to : refund.charge ≡ part.object = ap (λ (p : Addition ℕ). p.object) same in
     omega (arith, within, to)
 refunded_named rows (item.Dispute dispute) part e there = absurd (cc)
 refunded_named rows (item.Txn txn) part e there = absurd (cc)
 refunded_named rows (item.Event event) part e there = absurd (cc)
 
 -- a transaction from a source adds to that
-moved_to : (from : TxnSource) (move : Move) (part : Part (List Move)) → moved_by from move ≡ Some part → part.object ≡ source_number from
+moved_to : (from : TxnSource) (move : Move) (part : Addition (List Move)) → moved_by from move ≡ Some part → part.object ≡ source_number from
 moved_to (source.Charge number) move part e = absurd (cc)
 moved_to (source.Refund number) move part e = absurd (cc)
 moved_to (source.Dispute number) move part e =
-    let same : record { object = number; amount = move ∷ [] } ≡ part = cc in sym (ap (λ (p : Part (List Move)). p.object) same)
+    let same : record { object = number; amount = move ∷ [] } ≡ part = cc in sym (ap (λ (p : Addition (List Move)). p.object) same)
 
 pub moved_named : AddsToNamed moved
 moved_named rows (item.Account account) part e there = absurd (cc)

@@ -5,7 +5,7 @@ use Rattle.std.proofs.lemmas.Bool.{eqb-true}
 use Rattle.std.proofs.lemmas.Option.{cond_some}
 use Rattle.ph_base.specs.declared.ids.Kind.{Kind}
 use Rattle.ph_rows.specs.declared.rows.Row.{Row}
-use Rattle.ph_items.specs.Kinds.{kind_of, number_of, is_kind}
+use Rattle.ph_items.specs.Kinds.{kind_of, kind_number, is_kind}
 use Rattle.ph_rows.specs.Names.{number_named, if_of_kind, object_of, object_named, if_of_account, owned_named}
 use Rattle.ph_rows.specs.Rows.{row_at, latest_of}
 use Rattle.ph_facts.specs.Sound.{IsSound}
@@ -33,7 +33,7 @@ number_found state wanted number row sound e = at (latest_of number state.rows) 
         subst (λ (r : Row). IsPresent state.rows wanted r) chosen.1 (record {
           stands = stands.0;
           latest = subst (λ (n : ℕ). latest_of n state.rows ≡ Some last) (sym stands.1) l;
-          kind = kind_numbered (kind_of last.item) wanted (eqb-true (number_of (kind_of last.item)) (number_of wanted) chosen.0);
+          kind = kind_numbered (kind_of last.item) wanted (eqb-true (kind_number (kind_of last.item)) (kind_number wanted) chosen.0);
         })
 
 -- the object that an id names is there

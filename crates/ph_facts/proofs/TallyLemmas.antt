@@ -11,7 +11,7 @@ use Rattle.ph_rows.specs.Views.{ViewState}
 use Rattle.ph_rows.proofs.RowLemmas.{both_fail, first_fails, found_among, is_row_at, latest_from, second_fails}
 use Rattle.ph_facts.specs.Order.{IsInOrder}
 use Rattle.ph_facts.specs.Origins.{HasOrigins, origins_of}
-use Rattle.ph_facts.specs.Tallies.{Part, SaysSum, SaySums, Tally, given, sum_for}
+use Rattle.ph_facts.specs.Tallies.{Addition, SaysSum, SaySums, Tally, given, sum_for}
 
 -- amounts are added up as sums are: nothing changes nothing, and it doesn't matter where one begins
 pub record IsSum (A : Type 0) (tally : Tally A) : Type 0 where
@@ -24,20 +24,20 @@ pub sum_append : {A : Type 0} (tally : Tally A) (object : ℕ) (rows more : List
     → sum_for tally object (rows ++ more) ≡ tally.plus (sum_for tally object rows) (sum_for tally object more)
 sum_append tally object [] more sum = sym (sum.front (sum_for tally object more))
 sum_append tally object (row ∷ rows) more sum =
-    ap (tally.plus (given tally.nothing object (tally.part row.item))) (sum_append tally object rows more sum)
-    ∙ sym (sum.grouped (given tally.nothing object (tally.part row.item)) (sum_for tally object rows) (sum_for tally object more))
+    ap (tally.plus (given tally.nothing object (tally.adds row.item))) (sum_append tally object rows more sum)
+    ∙ sym (sum.grouped (given tally.nothing object (tally.adds row.item)) (sum_for tally object rows) (sum_for tally object more))
 
 -- a part goes to an object
-abbrev pub goes_to : {A : Type 0} → ℕ → Option (Part A) → Bool
+abbrev pub goes_to : {A : Type 0} → ℕ → Option (Addition A) → Bool
 goes_to object None = false
 goes_to object (Some part) = part.object == object
 
 -- a row has to do with the amount of an object: it adds to it, or is a version of the object that says it
 abbrev pub touches : {A : Type 0} → Tally A → ℕ → Row → Bool
-touches tally object row = goes_to object (tally.part row.item) || (is_some (tally.said row.item) && row.object == object)
+touches tally object row = goes_to object (tally.adds row.item) || (is_some (tally.said row.item) && row.object == object)
 
 -- a part that goes elsewhere gives nothing
-given_elsewhere : {A : Type 0} (nothing : A) (object : ℕ) (part : Option (Part A)) → goes_to object part ≡ false
+given_elsewhere : {A : Type 0} (nothing : A) (object : ℕ) (part : Option (Addition A)) → goes_to object part ≡ false
     → given nothing object part ≡ nothing
 given_elsewhere nothing object None e = refl
 given_elsewhere nothing object (Some part) e = cond-false (part.object == object) part.amount nothing e
@@ -50,8 +50,8 @@ sum_apart tally object (row ∷ rows) sum apart =
     let here = first_fails (touches tally object row) (list_any (touches tally object) rows) apart in
     let there = second_fails (touches tally object row) (list_any (touches tally object) rows) apart in
     ap (λ first. tally.plus first (sum_for tally object rows))
-    (given_elsewhere tally.nothing object (tally.part row.item)
-    (first_fails (goes_to object (tally.part row.item)) (is_some (tally.said row.item) && row.object == object) here))
+    (given_elsewhere tally.nothing object (tally.adds row.item)
+    (first_fails (goes_to object (tally.adds row.item)) (is_some (tally.said row.item) && row.object == object) here))
     ∙ sum.front (sum_for tally object rows) ∙ sum_apart tally object rows sum there
 
 -- of two tests that don't both pass, the first where the second does
@@ -73,7 +73,7 @@ none_says tally object (x ∷ rows) zero row amount apart e mine said =
     let same : x ≡ row = cc in
     let here : touches tally object row ≡ false =
     subst (λ (r : Row). touches tally object r ≡ false) same (first_fails (touches tally object x) (list_any (touches tally object) rows) apart) in
-    let version = second_fails (goes_to object (tally.part row.item)) (is_some (tally.said row.item) && row.object == object) here in
+    let version = second_fails (goes_to object (tally.adds row.item)) (is_some (tally.said row.item) && row.object == object) here in
     says_none (tally.said row.item) amount
     (first_of_both (is_some (tally.said row.item)) (row.object == object) version (eq-eqb row.object object mine)) said
 none_says tally object (x ∷ rows) (suc i) row amount apart e mine said =
@@ -118,10 +118,10 @@ sums_of_one tally rows more object sum says mine apart other = at (eqb other obj
 
 -- a row has to do with amounts: it adds to one, or says one
 abbrev pub speaks : {A : Type 0} → Tally A → Row → Bool
-speaks tally row = is_some (tally.part row.item) || is_some (tally.said row.item)
+speaks tally row = is_some (tally.adds row.item) || is_some (tally.said row.item)
 
 -- what adds nothing goes to no object
-goes_nowhere : {A : Type 0} (object : ℕ) (part : Option (Part A)) → is_some part ≡ false → goes_to object part ≡ false
+goes_nowhere : {A : Type 0} (object : ℕ) (part : Option (Addition A)) → is_some part ≡ false → goes_to object part ≡ false
 goes_nowhere object None e = refl
 goes_nowhere object (Some part) e = absurd (false≢true (sym e))
 
@@ -132,9 +132,9 @@ touch_none tally object [] none = refl
 touch_none tally object (row ∷ more) none =
     let here = first_fails (speaks tally row) (list_any (speaks tally) more) none in
     both_fail (touches tally object row) (list_any (touches tally object) more)
-    (both_fail (goes_to object (tally.part row.item)) (is_some (tally.said row.item) && row.object == object)
-    (goes_nowhere object (tally.part row.item) (first_fails (is_some (tally.part row.item)) (is_some (tally.said row.item)) here))
-    (ap (λ (b : Bool). b && row.object == object) (second_fails (is_some (tally.part row.item)) (is_some (tally.said row.item)) here)))
+    (both_fail (goes_to object (tally.adds row.item)) (is_some (tally.said row.item) && row.object == object)
+    (goes_nowhere object (tally.adds row.item) (first_fails (is_some (tally.adds row.item)) (is_some (tally.said row.item)) here))
+    (ap (λ (b : Bool). b && row.object == object) (second_fails (is_some (tally.adds row.item)) (is_some (tally.said row.item)) here)))
     (touch_none tally object more (second_fails (speaks tally row) (list_any (speaks tally) more) none))
 
 -- all objects say their amounts still with rows that have to do with none
@@ -144,12 +144,12 @@ sums_stay tally rows more sum none says object = sum_stays tally object rows mor
 
 -- what an item adds, it adds to an object that it names, or to none that is later than the rows where those have begun
 abbrev pub AddsToNamed : {A : Type 0} → Tally A → Type 0
-AddsToNamed {A} tally = (rows : List Row) (o : Item) (part : Part A) → tally.part o ≡ Some part → HasOrigins rows (origins_of o)
+AddsToNamed {A} tally = (rows : List Row) (o : Item) (part : Addition A) → tally.adds o ≡ Some part → HasOrigins rows (origins_of o)
     → part.object ≤ length rows
 
 -- rows of which none adds anything to an object
 sum_of_none : {A : Type 0} (tally : Tally A) (object : ℕ) (rows : List Row) → IsSum A tally
-    → ((i : ℕ) (row : Row) → slice_get rows i ≡ Some row → given tally.nothing object (tally.part row.item) ≡ tally.nothing)
+    → ((i : ℕ) (row : Row) → slice_get rows i ≡ Some row → given tally.nothing object (tally.adds row.item) ≡ tally.nothing)
     → sum_for tally object rows ≡ tally.nothing
 sum_of_none tally object [] sum none = refl
 sum_of_none tally object (row ∷ rows) sum none =
@@ -160,9 +160,9 @@ sum_of_none tally object (row ∷ rows) sum none =
 pub sum_later : {A : Type 0} (tally : Tally A) (state : ViewState) (object : ℕ) → IsSum A tally → AddsToNamed tally
     → IsInOrder state → length state.rows < object → sum_for tally object state.rows ≡ tally.nothing
 sum_later {A} tally state object sum named order later =
-    sum_of_none tally object state.rows sum (λ i row e. given_later (tally.part row.item) (λ part is. named state.rows row.item part is (there i row e)))
+    sum_of_none tally object state.rows sum (λ i row e. given_later (tally.adds row.item) (λ part is. named state.rows row.item part is (there i row e)))
   where
-    given_later : (part : Option (Part A)) → ((some : Part A) → part ≡ Some some → some.object ≤ length state.rows)
+    given_later : (part : Option (Addition A)) → ((some : Addition A) → part ≡ Some some → some.object ≤ length state.rows)
         → given tally.nothing object part ≡ tally.nothing
     given_later None within = refl
     given_later (Some part) within =

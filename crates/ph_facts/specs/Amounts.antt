@@ -14,10 +14,10 @@ use Rattle.ph_items.specs.Disputes.{dispute_fee}
 use Rattle.ph_items.specs.Items.{charge_in, dispute_in, refund_in, txn_in}
 use Rattle.ph_items.specs.Transactions.{source_number}
 use Rattle.ph_rows.specs.declared.rows.Row.{Row}
-use Rattle.ph_facts.specs.Tallies.{Part, Tally, sum_for}
+use Rattle.ph_facts.specs.Tallies.{Addition, Tally, sum_for}
 
 -- what a transaction of a type adds to what was captured of its source: its amount, where the type is charge
-abbrev pub captured_by : TxnType → ℕ → ℤ → Option (Part ℤ)
+abbrev pub captured_by : TxnType → ℕ → ℤ → Option (Addition ℤ)
 captured_by sort.Charge charge amount = Some (record { object = charge; amount = amount })
 captured_by sort.Refund charge amount = None
 captured_by sort.Adjustment charge amount = None
@@ -27,7 +27,7 @@ abbrev pub captured : Tally ℤ
 captured = record {
   nothing = pos 0;
   plus = λ first second. first +ℤ second;
-  part = λ item. option_and_then (λ (txn : Txn). captured_by txn.sort (source_number txn.source) txn.amount) (txn_in item);
+  adds = λ item. option_and_then (λ (txn : Txn). captured_by txn.sort (source_number txn.source) txn.amount) (txn_in item);
   said = λ item. option_map (λ (charge : Charge). pos charge.amount_captured) (charge_in item);
 }
 
@@ -39,7 +39,7 @@ abbrev pub refunded : Tally ℕ
 refunded = record {
   nothing = 0;
   plus = λ first second. first + second;
-  part = λ item. option_map (λ (refund : Refund). record { object = refund.charge; amount = refund.amount }) (refund_in item);
+  adds = λ item. option_map (λ (refund : Refund). record { object = refund.charge; amount = refund.amount }) (refund_in item);
   said = λ item. option_map (λ (charge : Charge). charge.amount_refunded) (charge_in item);
 }
 
@@ -67,7 +67,7 @@ moves_in status.Won amount = taken_move amount ∷ given_move amount ∷ []
 moves_in status.Lost amount = taken_move amount ∷ []
 
 -- what a transaction from a source adds to what a dispute has moved: its own move, where the source is one
-abbrev pub moved_by : TxnSource → Move → Option (Part (List Move))
+abbrev pub moved_by : TxnSource → Move → Option (Addition (List Move))
 moved_by (source.Charge number) move = None
 moved_by (source.Refund number) move = None
 moved_by (source.Dispute number) move = Some (record { object = number; amount = move ∷ [] })
@@ -77,7 +77,7 @@ abbrev pub moved : Tally (List Move)
 moved = record {
   nothing = [];
   plus = λ first second. first ++ second;
-  part = λ item. option_and_then (λ (txn : Txn). moved_by txn.source (record { amount = txn.amount; fee = txn.fee })) (txn_in item);
+  adds = λ item. option_and_then (λ (txn : Txn). moved_by txn.source (record { amount = txn.amount; fee = txn.fee })) (txn_in item);
   said = λ item. option_map (λ (dispute : Dispute). moves_in dispute.status dispute.amount) (dispute_in item);
 }
 

@@ -5,7 +5,7 @@ use Rattle.ph_rows.specs.declared.rows.Row.{Row}
 use Rattle.ph_rows.specs.Rows.{latest_of}
 
 -- what an item adds, and the number of the object to whose amount it is added
-pub record Part (A : Type 0) : Type 0 where
+pub record Addition (A : Type 0) : Type 0 where
   pub object : ℕ
   pub amount : A
 
@@ -16,20 +16,20 @@ pub record Tally (A : Type 0) : Type 0 where
   -- one amount, and another behind it
   pub plus : A → A → A
   -- what an item adds to it, if it adds anything
-  pub part : Item → Option (Part A)
+  pub adds : Item → Option (Addition A)
   -- what a version of an object says that its own is, if it says anything of it
   pub said : Item → Option A
 
--- what a part gives to an object
-abbrev pub given : {A : Type 0} → A → ℕ → Option (Part A) → A
+-- what an addition gives to an object
+abbrev pub given : {A : Type 0} → A → ℕ → Option (Addition A) → A
 given nothing object None = nothing
-given nothing object (Some part) = if part.object == object then part.amount else nothing
+given nothing object (Some addition) = if addition.object == object then addition.amount else nothing
 
 -- the amount of an object: what the rows add to it, in their order
 abbrev pub sum_for : {A : Type 0} → Tally A → ℕ → List Row → A
 sum_for tally object [] = tally.nothing
 sum_for tally object (row ∷ rows) =
-    tally.plus (given tally.nothing object (tally.part row.item)) (sum_for tally object rows)
+    tally.plus (given tally.nothing object (tally.adds row.item)) (sum_for tally object rows)
 
 -- the present version of an object says what the rows add up to, where it says anything
 abbrev pub SaysSum : {A : Type 0} → Tally A → ℕ → List Row → Type 0

@@ -20,6 +20,3 @@ pub use leaf::Leaf;
 pub use names::{is_below, is_within};
 pub use node::Node;
 pub use read::read_form;
-
-#[cfg(test)]
-mod tests;

@@ -5,8 +5,6 @@ mod host;
 mod options;
 mod plans;
 mod setups;
-#[cfg(test)]
-mod tests;
 
 pub use host::{plan, run_once};
 pub use plans::Plan;

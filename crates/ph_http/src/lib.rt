@@ -23,6 +23,3 @@ pub use laws::{
 pub use message::{Next, Raw, Reply};
 pub use reply_text::render;
 pub use talk::Talk;
-
-#[cfg(test)]
-mod tests;

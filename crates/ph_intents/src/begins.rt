@@ -3,7 +3,7 @@
 use ph_calls::{Authenticate, ConfirmIntent, CreateIntent};
 
 /// A call that begins an attempt: a confirm, a create that is confirmed at once, or an authentication that succeeded.
-#[derive(Clone, Copy, Debug)]
+#[derive(Clone, Copy)]
 pub enum Begin<'a> {
     Confirm(&'a ConfirmIntent),
     Create(&'a CreateIntent),

@@ -15,8 +15,6 @@ mod metadata;
 mod refusals;
 mod settlement;
 mod statuses;
-#[cfg(test)]
-mod tests;
 mod updating;
 mod versions;
 

@@ -21,6 +21,3 @@ pub use std_source::StdSource;
 pub use sure_sink::SureSink;
 pub use sure_source::SureSource;
 pub use whole::write_all;
-
-#[cfg(test)]
-mod tests;

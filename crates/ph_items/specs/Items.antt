@@ -5,6 +5,8 @@ use Rattle.ph_items.specs.declared.items.Item.TheVariants as item
 use Rattle.ph_items.specs.declared.intents.Intent.{Intent}
 use Rattle.ph_items.specs.declared.attempts.Attempt.{Attempt}
 use Rattle.ph_items.specs.declared.charges.Charge.{Charge}
+use Rattle.ph_items.specs.declared.charges.ChargeSort.{ChargeSort}
+use Rattle.ph_items.specs.declared.charges.ChargeSort.TheVariants as charge_sort
 use Rattle.ph_items.specs.declared.refunds.Refund.{Refund}
 use Rattle.ph_items.specs.declared.disputes.Dispute.{Dispute}
 use Rattle.ph_items.specs.declared.transactions.Txn.{Txn}
@@ -41,6 +43,15 @@ charge_in (item.Refund refund) = None
 charge_in (item.Dispute dispute) = None
 charge_in (item.Txn txn) = None
 charge_in (item.Event event) = None
+
+-- a charge, where it is a card charge
+abbrev pub if_card : ChargeSort → Charge → Option Charge
+if_card (charge_sort.Card intent) charge = Some charge
+if_card (charge_sort.Payment transfer) charge = None
+
+-- the version of a card charge that an item is
+abbrev pub card_charge_in : Item → Option Charge
+card_charge_in item = option_and_then (λ (charge : Charge). if_card charge.sort charge) (charge_in item)
 
 -- the refund that an item is
 abbrev pub refund_in : Item → Option Refund

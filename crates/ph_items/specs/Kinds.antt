@@ -18,24 +18,24 @@ kind_of (item.Txn txn) = kind.Txn
 kind_of (item.Event event) = kind.Event
 
 -- the place of a kind in the list of kinds
-abbrev pub number_of : Kind → ℕ
-number_of kind.Intent = 0
-number_of kind.Attempt = 1
-number_of kind.Charge = 2
-number_of kind.Payment = 3
-number_of kind.Refund = 4
-number_of kind.Dispute = 5
-number_of kind.Transfer = 6
-number_of kind.Reversal = 7
-number_of kind.Fee = 8
-number_of kind.FeeRefund = 9
-number_of kind.Txn = 10
-number_of kind.Account = 11
-number_of kind.Event = 12
-number_of kind.Endpoint = 13
-number_of kind.Delivery = 14
-number_of kind.Payout = 15
+abbrev pub kind_number : Kind → ℕ
+kind_number kind.Intent = 0
+kind_number kind.Attempt = 1
+kind_number kind.Charge = 2
+kind_number kind.Payment = 3
+kind_number kind.Refund = 4
+kind_number kind.Dispute = 5
+kind_number kind.Transfer = 6
+kind_number kind.Reversal = 7
+kind_number kind.Fee = 8
+kind_number kind.FeeRefund = 9
+kind_number kind.Txn = 10
+kind_number kind.Account = 11
+kind_number kind.Event = 12
+kind_number kind.Endpoint = 13
+kind_number kind.Delivery = 14
+kind_number kind.Payout = 15
 
 -- the item is a version of an object of the kind
 abbrev pub is_kind : Kind → Item → Bool
-is_kind wanted item = number_of (kind_of item) == number_of wanted
+is_kind wanted item = kind_number (kind_of item) == kind_number wanted

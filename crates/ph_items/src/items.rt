@@ -1,10 +1,10 @@
 //! What a version of an object says, by the kind of the object.
 ghost use Rattle.std.specs.Prelude.{◌≡◌};
-ghost use Rattle.ph_items.specs.Kinds.{kind_of, number_of};
+ghost use Rattle.ph_items.specs.Kinds.{kind_of, kind_number};
 
 use crate::accounts::Account;
 use crate::attempts::Attempt;
-use crate::charges::Charge;
+use crate::charges::{Charge, ChargeSort};
 use crate::disputes::Dispute;
 use crate::events::Event;
 use crate::intents::Intent;
@@ -29,7 +29,7 @@ impl Item {
     ghost use Rattle.std.specs.Prelude.{◌≡◌};
     ghost use Rattle.std.specs.Option.{option_copied};
     ghost use Rattle.ph_items.specs.Kinds.{kind_of};
-    ghost use Rattle.ph_items.specs.Items.{intent_in, attempt_in, charge_in, refund_in, dispute_in, txn_in};
+    ghost use Rattle.ph_items.specs.Items.{intent_in, attempt_in, charge_in, card_charge_in, refund_in, dispute_in, txn_in};
 
     /// The kind of the object.
     pub fn kind(&self) -> Kind
@@ -95,6 +95,17 @@ impl Item {
         }
     }
 
+    /// The version of a card charge that it is. None exactly where it is another object's, or a payment's.
+    pub fn card_charge(&self) -> Option<&Charge>
+        ensures { option_copied result ≡ card_charge_in self.now }
+    {
+        let charge = self.charge()?;
+        match charge.sort {
+            ChargeSort::Card(_) => Some(charge),
+            ChargeSort::Payment(_) => None,
+        }
+    }
+
     /// The refund that it is. None exactly where it is another object's.
     pub fn refund(&self) -> Option<&Refund>
         ensures { option_copied result ≡ refund_in self.now }
@@ -146,7 +157,7 @@ impl Item {
 
 /// The place of a kind in the list of kinds.
 pub fn kind_number(kind: Kind) -> u8
-    ensures { result ≡ number_of kind }
+    ensures { result ≡ kind_number kind }
 {
     kind as u8
 }

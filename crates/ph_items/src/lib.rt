@@ -16,8 +16,6 @@ mod movements;
 mod orders;
 mod payment_methods;
 mod refunds;
-#[cfg(test)]
-mod tests;
 mod transactions;
 mod weights;
 

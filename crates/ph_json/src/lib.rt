@@ -8,6 +8,3 @@ mod writer;
 pub use doc::Doc;
 pub use members::Members;
 pub use writer::text;
-
-#[cfg(test)]
-mod tests;

@@ -11,8 +11,6 @@ mod lists;
 mod metadata;
 mod methods;
 mod numbers;
-#[cfg(test)]
-mod tests;
 mod words;
 
 pub use authentication::Authentication;

@@ -3,8 +3,6 @@
 
 mod laws;
 mod ledgers;
-#[cfg(test)]
-mod tests;
 
 pub use laws::{balances_are_sums, only_transactions_count};
 pub use ledgers::Ledger;

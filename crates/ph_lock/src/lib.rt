@@ -7,8 +7,6 @@ mod object;
 mod pass;
 mod steps;
 pub mod tally;
-#[cfg(test)]
-mod tests;
 mod turns;
 
 pub use lock::Lock;

@@ -14,6 +14,3 @@ pub use fees::fee;
 pub use laws::{fee_grows, part_grows};
 pub use parts::part;
 pub use signed_amounts::SignedAmount;
-
-#[cfg(test)]
-mod tests;

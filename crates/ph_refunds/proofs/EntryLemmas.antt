@@ -168,7 +168,7 @@ refund_enters state entry call row charge capture amount ready texts found card 
         ready.sound.laws.captured row.object row (pos charge.amount_captured) found.latest (ap captured.said found.is) in
         let was_refunded : charge.amount_refunded ≡ refunded_of row.object state.rows =
         ready.sound.laws.refunded row.object row charge.amount_refunded found.latest (ap refunded.said found.is) in
-        let takes : given 0 row.object (refunded.part (item.Refund refund)) ≡ amount =
+        let takes : given 0 row.object (refunded.adds (item.Refund refund)) ≡ amount =
         cond-true (eqb row.object row.object) amount 0 (eq-eqb row.object row.object refl) in
         record {
           captured = sum_known captured row.object state.rows (made ∷ txn ∷ new ∷ []) new (pos charge.amount_captured) captured_sum latest refl
@@ -176,7 +176,7 @@ refund_enters state entry call row charge capture amount ready texts found card 
               omega (arith, ints) in right);
           refunded = sum_known refunded row.object state.rows (made ∷ txn ∷ new ∷ []) new (charge.amount_refunded + amount) refunded_sum latest refl
               (let right : charge.amount_refunded + amount
-              ≡ refunded_of row.object state.rows + (given 0 row.object (refunded.part (item.Refund refund)) + (0 + (0 + 0))) =
+              ≡ refunded_of row.object state.rows + (given 0 row.object (refunded.adds (item.Refund refund)) + (0 + (0 + 0))) =
               omega arith in right);
         }
 

@@ -129,11 +129,11 @@ pub fn add_refund(
     ensures number { IfOk result (λ number. number ≡ last_place batch.old + 1) }
     ensures rows { OnOk result (batch.new ≡ refund_rows call.now account object charge.now capture amount batch.old) }
 {
-    let refunded = refunded_charge(alloc, amount, charge)?;
     let available_on = batch.at().max(capture.available_on);
     let refund = new_refund(alloc, call, object, charge, amount, batch)?;
     let number = batch.add(account, Item::Refund(refund))?;
     add_refund_txn(account, charge, amount, available_on, batch)?;
+    let refunded = refunded_charge(alloc, amount, charge)?;
     tell_refunded(account, object, refunded, batch)?;
     Ok(number)
 }

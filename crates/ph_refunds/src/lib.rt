@@ -5,8 +5,6 @@ mod entry;
 mod finding;
 mod laws;
 mod refunding;
-#[cfg(test)]
-mod tests;
 
 pub use laws::{refund_keeps_sound, refunds_are_sums};
 pub use refunding::refund;

@@ -11,14 +11,14 @@ use Rattle.ph_base.specs.Ids.{prefix_of, id_text}
 use Rattle.ph_base.specs.Numbers.{decimal, padded}
 use Rattle.ph_base.proofs.IdLemmas.{kinds, parts_of}
 use Rattle.ph_base.proofs.DecimalLemmas.{decimal_padded}
-use Rattle.ph_items.specs.Kinds.{number_of}
+use Rattle.ph_items.specs.Kinds.{kind_number}
 use Rattle.ph_rows.specs.Names.{number_named, is_printed_as}
 
 -- the kind of a number
 kind_again : ℕ → Kind
 kind_again number = get_or kinds number Intent
 
-again : (k : Kind) → kind_again (number_of k) ≡ k
+again : (k : Kind) → kind_again (kind_number k) ≡ k
 unfolding kind_again
 again Intent = refl
 again Attempt = refl
@@ -38,7 +38,7 @@ again Delivery = refl
 again Payout = refl
 
 -- kinds with the same number are the same
-pub kind_numbered : (a b : Kind) → number_of a ≡ number_of b → a ≡ b
+pub kind_numbered : (a b : Kind) → kind_number a ≡ kind_number b → a ≡ b
 kind_numbered a b e = sym (again a) ∙ ap kind_again e ∙ again b
 
 -- a printed id names its number
@@ -66,7 +66,7 @@ names_none kind text never = cases (decimal (drop (length text - 16) text)) (is_
         split n false b ha hb h = false≢true h
 
 -- a printed id of another kind names no number
-pub names_another : (wanted : Kind) (text : List ℕ) (i : Id) → (number_of i.kind ≡ number_of wanted → ⊥)
+pub names_another : (wanted : Kind) (text : List ℕ) (i : Id) → (kind_number i.kind ≡ kind_number wanted → ⊥)
     → ((j : Id) → text ≡ id_text j → Some i ≡ Some j) → None ≡ number_named wanted text
 names_another wanted text i other only =
-    names_none wanted text (λ j is same. other (ap (λ found. number_of (unwrap_or found i).kind) (only j same) ∙ ap number_of is))
+    names_none wanted text (λ j is same. other (ap (λ found. kind_number (unwrap_or found i).kind) (only j same) ∙ ap kind_number is))

@@ -6,8 +6,6 @@ mod list_views;
 mod names;
 mod rows;
 mod scans;
-#[cfg(test)]
-mod tests;
 mod views;
 mod weights;
 

@@ -12,6 +12,3 @@ pub use headers::header;
 pub use keyed_hash::hmac;
 pub use laws::header_is_good;
 pub use verdicts::{Verdict, verify};
-
-#[cfg(test)]
-mod tests;

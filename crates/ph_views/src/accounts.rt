@@ -2,7 +2,7 @@
 ghost use Rattle.std.specs.Prelude.{◌≡◌, IfOk};
 ghost use Rattle.ph_views.specs.Accounts.{account_doc, holder_members, standing_members};
 
-use crate::values;
+use crate::values::{put_id, put_metadata, put_moment};
 use ph_base::{Kind, NoMemory};
 use ph_items::Account;
 use ph_json::{Doc, Members};
@@ -30,7 +30,7 @@ fn holder(alloc: Global, account: &Account) -> Result<Members, NoMemory>
 {
     let mut members = Members::new(alloc);
     members.text_or_null("email", &account.email)?;
-    members.put("metadata", values::metadata(alloc, &account.metadata)?)?;
+    put_metadata(alloc, &mut members, "metadata", &account.metadata)?;
     members.text("type", account.sort.text())?;
     Ok(members)
 }
@@ -42,8 +42,8 @@ fn standing(alloc: Global, created: u64, object: u64) -> Result<Members, NoMemor
 {
     let mut members = Members::new(alloc);
     members.truth("charges_enabled", true)?;
-    members.put("created", values::moment(created))?;
-    members.put("id", values::id(alloc, Kind::Account, object)?)?;
+    put_moment(&mut members, "created", created)?;
+    put_id(&mut members, "id", Kind::Account, object)?;
     members.word("object", "account")?;
     members.truth("payouts_enabled", true)?;
     Ok(members)

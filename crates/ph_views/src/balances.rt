@@ -1,5 +1,5 @@
 //! The balance of an account.
-ghost use Rattle.std.specs.Prelude.{◌≡◌, IfOk};
+ghost use Rattle.std.specs.Prelude.{◌≡◌, [], ◌∷◌, ◌++◌, IfOk, OnOk, OnErr};
 ghost use Rattle.ph_money.specs.Currencies.{currencies};
 ghost use Rattle.ph_rows.specs.Balances.{balance_of};
 ghost use Rattle.ph_views.specs.Balances.{balance_doc, currencies_of, has_txns, is_txn_of, sum_doc, sum_docs};
@@ -16,14 +16,30 @@ pub fn balance_doc<V: View>(alloc: Global, view: &V, account: u64) -> Result<Doc
     ensures { IfOk result (λ doc. doc ≡ balance_doc account (V.state view.now).time (V.state view.now).rows) }
 {
     let currencies = currencies(alloc, view, account)?;
-    let available = sums(alloc, view, true, account, currencies.as_slice())?;
-    let pending = sums(alloc, view, false, account, currencies.as_slice())?;
+    let list = currencies.as_slice();
     let mut members = Members::new(alloc);
-    members.put("available", available)?;
+    put_sums(alloc, &mut members, "available", view, true, account, list)?;
     members.truth("livemode", false)?;
     members.word("object", "balance")?;
-    members.put("pending", pending)?;
+    put_sums(alloc, &mut members, "pending", view, false, account, list)?;
     Ok(members.done())
+}
+
+// Puts the available or the pending balances of an account in currencies.
+fn put_sums<V: View>(
+    alloc: Global,
+    members: &mut Members,
+    key: &str,
+    view: &V,
+    available: bool,
+    account: u64,
+    currencies: &[Currency],
+) -> Result<(), NoMemory>
+    ensures ok { OnOk result (members.new ≡ members.old ++ (key.now, Doc.List (sum_docs available account (V.state view.now).time (V.state view.now).rows currencies.now)) ∷ []) }
+    ensures err { OnErr result (members.new ≡ members.old) }
+{
+    let sums = sums(alloc, view, available, account, currencies)?;
+    members.put(key, sums)
 }
 
 // The currencies of an account's transactions, or usd.

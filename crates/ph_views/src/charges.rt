@@ -1,10 +1,10 @@
 //! Charges.
-ghost use Rattle.std.specs.Prelude.{◌≡◌, IfOk, option_map};
+ghost use Rattle.std.specs.Prelude.{◌≡◌, [], ◌∷◌, ◌++◌, IfOk, OnOk, OnErr, option_map, codes};
 ghost use Rattle.ph_views.specs.Charges.{charge_doc, charge_amount_members, charge_name_members, charge_progress_members, charge_payment_members, failure_code, is_paid, is_refunded, transaction_of};
 ghost use Rattle.ph_errors.specs.Names.{code_name};
 ghost use Rattle.ph_json.specs.Values.{text_or_null};
 
-use crate::values;
+use crate::values::{put_amount, put_id, put_id_or_null, put_metadata, put_method, put_moment};
 use ph_base::{Kind, NoMemory};
 use ph_errors::Code;
 use ph_items::{Capture, Charge, ChargeStatus};
@@ -34,9 +34,9 @@ fn amounts(alloc: Global, charge: &Charge) -> Result<Members, NoMemory>
     ensures { IfOk result (λ members. members ≡ charge_amount_members charge.now) }
 {
     let mut members = Members::new(alloc);
-    members.number("amount", charge.amount.units() as i64)?;
-    members.number("amount_captured", charge.amount_captured.units() as i64)?;
-    members.number("amount_refunded", charge.amount_refunded.units() as i64)?;
+    put_amount(&mut members, "amount", charge.amount)?;
+    put_amount(&mut members, "amount_captured", charge.amount_captured)?;
+    put_amount(&mut members, "amount_refunded", charge.amount_refunded)?;
     members.null("application_fee")?;
     members.null("application_fee_amount")?;
     members.text("currency", charge.currency.code())?;
@@ -49,11 +49,11 @@ fn names(alloc: Global, created: u64, object: u64, charge: &Charge) -> Result<Me
     ensures { IfOk result (λ members. members ≡ charge_name_members created object charge.now) }
 {
     let mut members = Members::new(alloc);
-    members.put("created", values::moment(created))?;
+    put_moment(&mut members, "created", created)?;
     members.text_or_null("description", &charge.description)?;
-    members.put("id", values::id(alloc, charge.sort.kind(), object)?)?;
+    put_id(&mut members, "id", charge.sort.kind(), object)?;
     members.truth("livemode", false)?;
-    members.put("metadata", values::metadata(alloc, &charge.metadata)?)?;
+    put_metadata(alloc, &mut members, "metadata", &charge.metadata)?;
     members.word("object", "charge")?;
     Ok(members)
 }
@@ -64,13 +64,15 @@ fn progress(alloc: Global, charge: &Charge) -> Result<Members, NoMemory>
     ensures { IfOk result (λ members. members ≡ charge_progress_members charge.now) }
 {
     let mut members = Members::new(alloc);
-    members.put(
+    put_id_or_null(
+        &mut members,
         "balance_transaction",
-        values::id_or_null(alloc, Kind::Txn, transaction_of(charge.capture))?,
+        Kind::Txn,
+        transaction_of(charge.capture),
     )?;
     members.truth("captured", charge.capture.is_some())?;
     members.truth("disputed", charge.dispute.is_some())?;
-    members.put("failure_code", failure_code(alloc, charge.status)?)?;
+    put_failure_code(&mut members, "failure_code", charge.status)?;
     members.truth("paid", is_paid(charge.status))?;
     members.truth("refunded", is_refunded(charge))?;
     members.text("status", charge.status.text())?;
@@ -83,17 +85,18 @@ fn payment(alloc: Global, charge: &Charge) -> Result<Members, NoMemory>
     ensures { IfOk result (λ members. members ≡ charge_payment_members charge.now) }
 {
     let mut members = Members::new(alloc);
-    members.put(
+    put_id_or_null(
+        &mut members,
         "payment_intent",
-        values::id_or_null(alloc, Kind::Intent, charge.sort.intent())?,
+        Kind::Intent,
+        charge.sort.intent(),
     )?;
-    members.put(
-        "payment_method",
-        values::method(alloc, &charge.payment_method)?,
-    )?;
-    members.put(
+    put_method(&mut members, "payment_method", &charge.payment_method)?;
+    put_id_or_null(
+        &mut members,
         "source_transfer",
-        values::id_or_null(alloc, Kind::Transfer, charge.sort.transfer())?,
+        Kind::Transfer,
+        charge.sort.transfer(),
     )?;
     members.null("transfer")?;
     members.text_or_null("transfer_group", &charge.transfer_group)?;
@@ -120,13 +123,14 @@ fn is_paid(status: ChargeStatus) -> bool
     }
 }
 
-// Why a charge failed, or null.
-fn failure_code(alloc: Global, status: ChargeStatus) -> Result<Doc, NoMemory>
-    ensures { IfOk result (λ doc. doc ≡ text_or_null (option_map code_name (failure_code status))) }
+// Puts why a charge failed, or null.
+fn put_failure_code(members: &mut Members, key: &str, status: ChargeStatus) -> Result<(), NoMemory>
+    ensures ok { OnOk result (members.new ≡ members.old ++ (key.now, text_or_null (option_map code_name (failure_code status))) ∷ []) }
+    ensures err { OnErr result (members.new ≡ members.old) }
 {
     match status {
-        ChargeStatus::Succeeded => Ok(Doc::Null),
-        ChargeStatus::Failed => Doc::text_of(alloc, Code::CardDeclined.name().as_bytes()),
+        ChargeStatus::Succeeded => members.null(key),
+        ChargeStatus::Failed => members.word(key, Code::CardDeclined.name()),
     }
 }
 

@@ -1,8 +1,8 @@
 //! Disputes.
-ghost use Rattle.std.specs.Prelude.{◌≡◌, IfOk};
+ghost use Rattle.std.specs.Prelude.{◌≡◌, [], ◌∷◌, ◌++◌, IfOk, OnOk, OnErr, codes};
 ghost use Rattle.ph_views.specs.Disputes.{dispute_doc, dispute_amount_members, dispute_name_members, evidence_doc};
 
-use crate::values;
+use crate::values::{put_amount, put_id, put_id_or_null, put_moment};
 use ph_base::{Bytes, Kind, NoMemory};
 use ph_items::Dispute;
 use ph_json::{Doc, Members};
@@ -29,14 +29,11 @@ fn amounts(alloc: Global, dispute: &Dispute) -> Result<Members, NoMemory>
     ensures { IfOk result (λ members. members ≡ dispute_amount_members dispute.now) }
 {
     let mut members = Members::new(alloc);
-    members.number("amount", dispute.amount.units() as i64)?;
-    members.put("charge", values::id(alloc, Kind::Charge, dispute.charge)?)?;
+    put_amount(&mut members, "amount", dispute.amount)?;
+    put_id(&mut members, "charge", Kind::Charge, dispute.charge)?;
     members.text("currency", dispute.currency.code())?;
-    members.put("evidence", evidence(alloc, &dispute.evidence)?)?;
-    members.put(
-        "payment_intent",
-        values::id_or_null(alloc, Kind::Intent, dispute.intent)?,
-    )?;
+    put_evidence(alloc, &mut members, "evidence", &dispute.evidence)?;
+    put_id_or_null(&mut members, "payment_intent", Kind::Intent, dispute.intent)?;
     members.word("reason", "fraudulent")?;
     members.text("status", dispute.status.text())?;
     Ok(members)
@@ -48,11 +45,25 @@ fn names(alloc: Global, created: u64, object: u64) -> Result<Members, NoMemory>
     ensures { IfOk result (λ members. members ≡ dispute_name_members created object) }
 {
     let mut members = Members::new(alloc);
-    members.put("created", values::moment(created))?;
-    members.put("id", values::id(alloc, Kind::Dispute, object)?)?;
+    put_moment(&mut members, "created", created)?;
+    put_id(&mut members, "id", Kind::Dispute, object)?;
     members.truth("livemode", false)?;
     members.word("object", "dispute")?;
     Ok(members)
+}
+
+// Puts what was sent to win it.
+fn put_evidence(
+    alloc: Global,
+    members: &mut Members,
+    key: &str,
+    text: &Option<Bytes>,
+) -> Result<(), NoMemory>
+    ensures ok { OnOk result (members.new ≡ members.old ++ (key.now, evidence_doc text.now) ∷ []) }
+    ensures err { OnErr result (members.new ≡ members.old) }
+{
+    let evidence = evidence(alloc, text)?;
+    members.put(key, evidence)
 }
 
 // What was sent to win it.

@@ -1,8 +1,9 @@
 //! Events.
-ghost use Rattle.std.specs.Prelude.{◌≡◌, IfOk};
+ghost use Rattle.std.specs.Prelude.{◌≡◌, [], ◌∷◌, ◌++◌, IfOk, OnOk, OnErr, codes};
+ghost use Rattle.ph_json.specs.Values.{member_if};
 ghost use Rattle.ph_views.specs.Events.{event_doc, connected_doc, request_doc, origin_members, news_members};
 
-use crate::values;
+use crate::values::{put_id, put_moment};
 use ph_base::{Bytes, Kind, NoMemory};
 use ph_items::{Event, PLATFORM};
 use ph_json::{Doc, Members};
@@ -31,11 +32,11 @@ fn origin(alloc: Global, created: u64, object: u64, account: u64) -> Result<Memb
     ensures { IfOk result (λ members. members ≡ origin_members created object account) }
 {
     let mut members = Members::new(alloc);
-    members.put("created", values::moment(created))?;
-    members.put("id", values::id(alloc, Kind::Event, object)?)?;
+    put_moment(&mut members, "created", created)?;
+    put_id(&mut members, "id", Kind::Event, object)?;
     members.truth("livemode", false)?;
     members.word("object", "event")?;
-    members.put_if("account", connected(alloc, account)?)?;
+    put_connected(&mut members, "account", account)?;
     Ok(members)
 }
 
@@ -44,25 +45,48 @@ fn origin(alloc: Global, created: u64, object: u64, account: u64) -> Result<Memb
 fn news(alloc: Global, event: &Event, subject: Doc) -> Result<Members, NoMemory>
     ensures { IfOk result (λ members. members ≡ news_members event.now subject) }
 {
-    let mut data = Members::new(alloc);
-    data.put("object", subject)?;
+    let data = data(alloc, subject)?;
     let mut members = Members::new(alloc);
-    members.put("data", data.done())?;
+    members.put("data", data)?;
     members.number("pending_webhooks", 0)?;
-    members.put("request", request(alloc, &event.key)?)?;
+    put_request(alloc, &mut members, "request", &event.key)?;
     members.text("type", event.sort.text())?;
     Ok(members)
 }
 
-// The account that an event of a connected account names.
-fn connected(alloc: Global, account: u64) -> Result<Option<Doc>, NoMemory>
-    ensures { IfOk result (λ doc. doc ≡ connected_doc account) }
+// Puts the account that an event of a connected account names.
+fn put_connected(members: &mut Members, key: &str, account: u64) -> Result<(), NoMemory>
+    ensures ok { OnOk result (members.new ≡ members.old ++ member_if key.now (connected_doc account)) }
+    ensures err { OnErr result (members.new ≡ members.old) }
 {
     if account == PLATFORM {
-        Ok(None)
+        Ok(())
     } else {
-        Ok(Some(values::id(alloc, Kind::Account, account)?))
+        put_id(members, key, Kind::Account, account)
     }
+}
+
+// The object that an event tells of, as its data.
+fn data(alloc: Global, subject: Doc) -> Result<Doc, NoMemory>
+    ensures { IfOk result (λ doc. doc ≡ Doc.Object ((codes "object", subject) ∷ [])) }
+{
+    let mut members = Members::new(alloc);
+    members.put("object", subject)?;
+    Ok(members.done())
+}
+
+// Puts the request that made the event happen.
+fn put_request(
+    alloc: Global,
+    members: &mut Members,
+    key: &str,
+    idempotency: &Option<Bytes>,
+) -> Result<(), NoMemory>
+    ensures ok { OnOk result (members.new ≡ members.old ++ (key.now, request_doc idempotency.now) ∷ []) }
+    ensures err { OnErr result (members.new ≡ members.old) }
+{
+    let request = request(alloc, idempotency)?;
+    members.put(key, request)
 }
 
 // The request that made the event happen.

@@ -1,10 +1,12 @@
 //! Payment intents.
-ghost use Rattle.std.specs.Prelude.{◌≡◌, IfOk, option_map};
+ghost use Rattle.std.specs.Prelude.{◌≡◌, [], ◌∷◌, ◌++◌, IfOk, OnOk, OnErr, option_map, codes};
 ghost use Rattle.ph_items.specs.Words.{cancellation_reason_text};
 ghost use Rattle.ph_json.specs.Values.{text_or_null};
 ghost use Rattle.ph_views.specs.Intents.{intent_doc, amount_members, name_members, progress_members, last_error_doc, next_action_doc, authenticate_doc, client_secret_of};
 
-use crate::values;
+use crate::values::{
+    printed_id, put_amount, put_id, put_id_or_null, put_metadata, put_method, put_moment,
+};
 use ph_base::{Bytes, Kind, NoMemory};
 use ph_errors::{ApiError, error_doc};
 use ph_items::{CancellationReason, Intent, IntentStatus, PaymentError};
@@ -33,9 +35,9 @@ fn amounts(alloc: Global, intent: &Intent) -> Result<Members, NoMemory>
     ensures { IfOk result (λ members. members ≡ amount_members intent.now) }
 {
     let mut members = Members::new(alloc);
-    members.number("amount", intent.amount.units() as i64)?;
-    members.number("amount_capturable", intent.amount_capturable.units() as i64)?;
-    members.number("amount_received", intent.amount_received.units() as i64)?;
+    put_amount(&mut members, "amount", intent.amount)?;
+    put_amount(&mut members, "amount_capturable", intent.amount_capturable)?;
+    put_amount(&mut members, "amount_received", intent.amount_received)?;
     members.null("application_fee_amount")?;
     members.text("currency", intent.currency.code())?;
     members.null("transfer_data")?;
@@ -49,12 +51,12 @@ fn names(alloc: Global, created: u64, object: u64, intent: &Intent) -> Result<Me
     ensures { IfOk result (λ members. members ≡ name_members created object intent.now) }
 {
     let mut members = Members::new(alloc);
-    members.put("client_secret", client_secret(alloc, object)?)?;
-    members.put("created", values::moment(created))?;
+    put_client_secret(alloc, &mut members, "client_secret", object)?;
+    put_moment(&mut members, "created", created)?;
     members.text_or_null("description", &intent.description)?;
-    members.put("id", values::id(alloc, Kind::Intent, object)?)?;
+    put_id(&mut members, "id", Kind::Intent, object)?;
     members.truth("livemode", false)?;
-    members.put("metadata", values::metadata(alloc, &intent.metadata)?)?;
+    put_metadata(alloc, &mut members, "metadata", &intent.metadata)?;
     members.word("object", "payment_intent")?;
     Ok(members)
 }
@@ -65,26 +67,42 @@ fn progress(alloc: Global, intent: &Intent) -> Result<Members, NoMemory>
     ensures { IfOk result (λ members. members ≡ progress_members intent.now) }
 {
     let mut members = Members::new(alloc);
-    members.put(
+    put_reason(
+        &mut members,
         "cancellation_reason",
-        reason(alloc, intent.cancellation_reason)?,
+        intent.cancellation_reason,
     )?;
     members.text("capture_method", intent.capture_method.text())?;
-    members.put(
+    put_last_error(
+        alloc,
+        &mut members,
         "last_payment_error",
-        last_error(alloc, intent.last_payment_error)?,
+        intent.last_payment_error,
     )?;
-    members.put(
+    put_id_or_null(
+        &mut members,
         "latest_charge",
-        values::id_or_null(alloc, Kind::Charge, intent.latest_charge)?,
+        Kind::Charge,
+        intent.latest_charge,
     )?;
-    members.put("next_action", next_action(alloc, intent.status)?)?;
-    members.put(
-        "payment_method",
-        values::method(alloc, &intent.payment_method)?,
-    )?;
+    put_next_action(alloc, &mut members, "next_action", intent.status)?;
+    put_method(&mut members, "payment_method", &intent.payment_method)?;
     members.text("status", intent.status.text())?;
     Ok(members)
+}
+
+// Puts what a client that confirms the payment for a customer shows.
+fn put_client_secret(
+    alloc: Global,
+    members: &mut Members,
+    key: &str,
+    object: u64,
+) -> Result<(), NoMemory>
+    ensures ok { OnOk result (members.new ≡ members.old ++ (key.now, Doc.Text (client_secret_of object)) ∷ []) }
+    ensures err { OnErr result (members.new ≡ members.old) }
+{
+    let secret = client_secret(alloc, object)?;
+    members.put(key, secret)
 }
 
 // What a client that confirms the payment for a customer shows.
@@ -92,19 +110,38 @@ fn client_secret(alloc: Global, object: u64) -> Result<Doc, NoMemory>
     ensures { IfOk result (λ doc. doc ≡ Doc.Text (client_secret_of object)) }
 {
     let mut text = Vec::new(alloc);
-    text.extend_from_slice(values::printed_id(Kind::Intent, object).as_slice())?;
+    text.extend_from_slice(printed_id(Kind::Intent, object).as_slice())?;
     text.extend_from_slice(b"_secret_payhost")?;
     Ok(Doc::Text(Bytes::new(text)))
 }
 
-// Why it was canceled, or null.
-fn reason(alloc: Global, reason: Option<CancellationReason>) -> Result<Doc, NoMemory>
-    ensures { IfOk result (λ doc. doc ≡ text_or_null (option_map cancellation_reason_text reason)) }
+// Puts why it was canceled, or null.
+fn put_reason(
+    members: &mut Members,
+    key: &str,
+    reason: Option<CancellationReason>,
+) -> Result<(), NoMemory>
+    ensures ok { OnOk result (members.new ≡ members.old ++ (key.now, text_or_null (option_map cancellation_reason_text reason)) ∷ []) }
+    ensures err { OnErr result (members.new ≡ members.old) }
 {
     match reason {
-        None => Ok(Doc::Null),
-        Some(reason) => Doc::text_of(alloc, reason.text()),
+        None => members.null(key),
+        Some(reason) => members.text(key, reason.text()),
     }
+}
+
+// Puts why the last confirmation didn't pay, or null.
+fn put_last_error(
+    alloc: Global,
+    members: &mut Members,
+    key: &str,
+    error: Option<PaymentError>,
+) -> Result<(), NoMemory>
+    ensures ok { OnOk result (members.new ≡ members.old ++ (key.now, last_error_doc error) ∷ []) }
+    ensures err { OnErr result (members.new ≡ members.old) }
+{
+    let error = last_error(alloc, error)?;
+    members.put(key, error)
 }
 
 // Why the last confirmation didn't pay, or null.
@@ -120,6 +157,20 @@ fn last_error(alloc: Global, error: Option<PaymentError>) -> Result<Doc, NoMemor
             error_doc(alloc, &ApiError::not_authenticated(alloc)?, None)
         }
     }
+}
+
+// Puts what the customer has to do, or null.
+fn put_next_action(
+    alloc: Global,
+    members: &mut Members,
+    key: &str,
+    status: IntentStatus,
+) -> Result<(), NoMemory>
+    ensures ok { OnOk result (members.new ≡ members.old ++ (key.now, next_action_doc status) ∷ []) }
+    ensures err { OnErr result (members.new ≡ members.old) }
+{
+    let action = next_action(alloc, status)?;
+    members.put(key, action)
 }
 
 // What the customer has to do, or null.

@@ -9,12 +9,8 @@ mod disputes;
 mod events;
 mod intents;
 mod item_docs;
-#[cfg(test)]
-mod money_tests;
 mod refunds;
 mod subjects;
-#[cfg(test)]
-mod tests;
 mod transactions;
 mod values;
 

@@ -1,10 +1,10 @@
 //! Refunds.
-ghost use Rattle.std.specs.Prelude.{◌≡◌, IfOk, option_map};
+ghost use Rattle.std.specs.Prelude.{◌≡◌, [], ◌∷◌, ◌++◌, IfOk, OnOk, OnErr, option_map, codes};
 ghost use Rattle.ph_items.specs.Words.{refund_reason_text};
 ghost use Rattle.ph_json.specs.Values.{text_or_null};
 ghost use Rattle.ph_views.specs.Refunds.{refund_doc, refund_amount_members, refund_name_members};
 
-use crate::values;
+use crate::values::{put_amount, put_id, put_id_or_null, put_metadata, put_moment};
 use ph_base::{Kind, NoMemory};
 use ph_items::{Refund, RefundReason};
 use ph_json::{Doc, Members};
@@ -31,18 +31,17 @@ fn amounts(alloc: Global, refund: &Refund) -> Result<Members, NoMemory>
     ensures { IfOk result (λ members. members ≡ refund_amount_members refund.now) }
 {
     let mut members = Members::new(alloc);
-    members.number("amount", refund.amount.units() as i64)?;
-    members.put(
+    put_amount(&mut members, "amount", refund.amount)?;
+    put_id(
+        &mut members,
         "balance_transaction",
-        values::id(alloc, Kind::Txn, refund.transaction)?,
+        Kind::Txn,
+        refund.transaction,
     )?;
-    members.put("charge", values::id(alloc, Kind::Charge, refund.charge)?)?;
+    put_id(&mut members, "charge", Kind::Charge, refund.charge)?;
     members.text("currency", refund.currency.code())?;
-    members.put(
-        "payment_intent",
-        values::id_or_null(alloc, Kind::Intent, refund.intent)?,
-    )?;
-    members.put("reason", reason(alloc, refund.reason)?)?;
+    put_id_or_null(&mut members, "payment_intent", Kind::Intent, refund.intent)?;
+    put_reason(&mut members, "reason", refund.reason)?;
     members.null("transfer_reversal")?;
     Ok(members)
 }
@@ -53,20 +52,25 @@ fn names(alloc: Global, created: u64, object: u64, refund: &Refund) -> Result<Me
     ensures { IfOk result (λ members. members ≡ refund_name_members created object refund.now) }
 {
     let mut members = Members::new(alloc);
-    members.put("created", values::moment(created))?;
-    members.put("id", values::id(alloc, Kind::Refund, object)?)?;
-    members.put("metadata", values::metadata(alloc, &refund.metadata)?)?;
+    put_moment(&mut members, "created", created)?;
+    put_id(&mut members, "id", Kind::Refund, object)?;
+    put_metadata(alloc, &mut members, "metadata", &refund.metadata)?;
     members.word("object", "refund")?;
     members.word("status", "succeeded")?;
     Ok(members)
 }
 
-// Why it was made, or null.
-fn reason(alloc: Global, reason: Option<RefundReason>) -> Result<Doc, NoMemory>
-    ensures { IfOk result (λ doc. doc ≡ text_or_null (option_map refund_reason_text reason)) }
+// Puts why it was made, or null.
+fn put_reason(
+    members: &mut Members,
+    key: &str,
+    reason: Option<RefundReason>,
+) -> Result<(), NoMemory>
+    ensures ok { OnOk result (members.new ≡ members.old ++ (key.now, text_or_null (option_map refund_reason_text reason)) ∷ []) }
+    ensures err { OnErr result (members.new ≡ members.old) }
 {
     match reason {
-        None => Ok(Doc::Null),
-        Some(reason) => Doc::text_of(alloc, reason.text()),
+        None => members.null(key),
+        Some(reason) => members.text(key, reason.text()),
     }
 }

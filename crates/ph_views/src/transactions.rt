@@ -1,9 +1,9 @@
 //! Balance transactions.
-ghost use Rattle.std.specs.Prelude.{◌≡◌, IfOk};
+ghost use Rattle.std.specs.Prelude.{◌≡◌, [], ◌∷◌, ◌++◌, IfOk, OnOk, OnErr, codes};
 ghost use Rattle.ph_json.specs.declared.doc.Doc.TheVariants as doc;
 ghost use Rattle.ph_views.specs.Transactions.{txn_doc, txn_amount_members, txn_name_members, txn_status, source_id};
 
-use crate::values;
+use crate::values::{put_id, put_moment};
 use ph_base::{Kind, NoMemory};
 use ph_items::{Txn, TxnSource};
 use ph_json::{Doc, Members};
@@ -35,7 +35,7 @@ fn amounts(alloc: Global, txn: &Txn) -> Result<Members, NoMemory>
     members.text("currency", txn.currency.code())?;
     members.number("fee", txn.fee.units() as i64)?;
     members.number("net", txn.net() as i64)?;
-    members.put("source", source(alloc, txn.source)?)?;
+    put_source(&mut members, "source", txn.source)?;
     members.text("type", txn.sort.text())?;
     Ok(members)
 }
@@ -52,9 +52,9 @@ fn names(
     ensures { IfOk result (λ members. members ≡ txn_name_members time created object txn.now) }
 {
     let mut members = Members::new(alloc);
-    members.put("available_on", values::moment(txn.available_on))?;
-    members.put("created", values::moment(created))?;
-    members.put("id", values::id(alloc, Kind::Txn, object)?)?;
+    put_moment(&mut members, "available_on", txn.available_on)?;
+    put_moment(&mut members, "created", created)?;
+    put_id(&mut members, "id", Kind::Txn, object)?;
     members.word("object", "balance_transaction")?;
     members.text("status", status(time, txn))?;
     Ok(members)
@@ -71,9 +71,10 @@ fn status(time: u64, txn: &Txn) -> &'static [u8]
     }
 }
 
-// The printed id of what a transaction comes from.
-fn source(alloc: Global, source: TxnSource) -> Result<Doc, NoMemory>
-    ensures { IfOk result (λ doc. doc ≡ Doc.Text (source_id source)) }
+// Puts the printed id of what a transaction comes from.
+fn put_source(members: &mut Members, key: &str, source: TxnSource) -> Result<(), NoMemory>
+    ensures ok { OnOk result (members.new ≡ members.old ++ (key.now, Doc.Text (source_id source)) ∷ []) }
+    ensures err { OnErr result (members.new ≡ members.old) }
 {
-    values::id(alloc, source.kind(), source.number())
+    put_id(members, key, source.kind(), source.number())
 }

@@ -1,5 +1,6 @@
-//! The values that the documents of objects share.
-ghost use Rattle.std.specs.Prelude.{◌≡◌, min, ◌-◌, IfOk};
+//! The values that the documents of objects share, each put in one step: a step that can fail lets go of the members
+//! that were put before it.
+ghost use Rattle.std.specs.Prelude.{◌≡◌, [], ◌∷◌, ◌++◌, pos, min, ◌-◌, IfOk, OnOk, OnErr};
 ghost use Rattle.ph_items.specs.Weights.{method_text};
 ghost use Rattle.ph_json.specs.Values.{text_or_null};
 ghost use Rattle.ph_views.specs.Values.{moment_doc, printed_id, id_or_null, metadata_doc};
@@ -7,15 +8,25 @@ ghost use Rattle.ph_views.specs.Values.{moment_doc, printed_id, id_or_null, meta
 use ph_base::{Id, IdText, Kind, NoMemory, print_id};
 use ph_items::{Metadata, PaymentMethod};
 use ph_json::{Doc, Members};
+use ph_money::Amount;
 use std::alloc::Global;
 
 const NUMBERS: u64 = 10_000_000_000_000_000;
 
-/// A moment in seconds since 1970. It takes no memory.
-pub fn moment(moment: u64) -> Doc
-    ensures { result ≡ moment_doc moment }
+/// Puts an amount of money at the end, in minor units of its currency.
+pub fn put_amount(members: &mut Members, key: &str, amount: Amount) -> Result<(), NoMemory>
+    ensures ok { OnOk result (members.new ≡ members.old ++ (key.now, Doc.Number (pos amount)) ∷ []) }
+    ensures err { OnErr result (members.new ≡ members.old) }
 {
-    Doc::Number(moment.min(i64::MAX as u64) as i64)
+    members.number(key, amount.units() as i64)
+}
+
+/// Puts a moment at the end, in seconds since 1970.
+pub fn put_moment(members: &mut Members, key: &str, moment: u64) -> Result<(), NoMemory>
+    ensures ok { OnOk result (members.new ≡ members.old ++ (key.now, moment_doc moment) ∷ []) }
+    ensures err { OnErr result (members.new ≡ members.old) }
+{
+    members.number(key, moment.min(i64::MAX as u64) as i64)
 }
 
 /// The printed id of an object: what the ids of its kind begin with, and the last sixteen digits of its number,
@@ -30,35 +41,61 @@ pub fn printed_id(kind: Kind, number: u64) -> IdText
     })
 }
 
-/// The printed id of an object as a text.
-pub fn id(alloc: Global, kind: Kind, number: u64) -> Result<Doc, NoMemory>
-    ensures { IfOk result (λ doc. doc ≡ Doc.Text (printed_id kind number)) }
+/// Puts the printed id of an object at the end.
+pub fn put_id(members: &mut Members, key: &str, kind: Kind, number: u64) -> Result<(), NoMemory>
+    ensures ok { OnOk result (members.new ≡ members.old ++ (key.now, Doc.Text (printed_id kind number)) ∷ []) }
+    ensures err { OnErr result (members.new ≡ members.old) }
 {
-    Doc::text_of(alloc, printed_id(kind, number).as_slice())
+    members.text(key, printed_id(kind, number).as_slice())
 }
 
-/// The printed id of an object, or null where there is none.
-pub fn id_or_null(alloc: Global, kind: Kind, number: Option<u64>) -> Result<Doc, NoMemory>
-    ensures { IfOk result (λ doc. doc ≡ id_or_null kind number) }
+/// Puts the printed id of an object at the end, or null where there is none.
+pub fn put_id_or_null(
+    members: &mut Members,
+    key: &str,
+    kind: Kind,
+    number: Option<u64>,
+) -> Result<(), NoMemory>
+    ensures ok { OnOk result (members.new ≡ members.old ++ (key.now, id_or_null kind number) ∷ []) }
+    ensures err { OnErr result (members.new ≡ members.old) }
 {
     match number {
-        None => Ok(Doc::Null),
-        Some(number) => id(alloc, kind, number),
+        None => members.null(key),
+        Some(number) => put_id(members, key, kind, number),
     }
 }
 
-/// The name of a payment method, or null where there is none.
-pub fn method(alloc: Global, method: &Option<PaymentMethod>) -> Result<Doc, NoMemory>
-    ensures { IfOk result (λ doc. doc ≡ text_or_null (method_text method.now)) }
+/// Puts the name of a payment method at the end, or null where there is none.
+pub fn put_method(
+    members: &mut Members,
+    key: &str,
+    method: &Option<PaymentMethod>,
+) -> Result<(), NoMemory>
+    ensures ok { OnOk result (members.new ≡ members.old ++ (key.now, text_or_null (method_text method.now)) ∷ []) }
+    ensures err { OnErr result (members.new ≡ members.old) }
 {
     match method {
-        None => Ok(Doc::Null),
-        Some(method) => Doc::text_of(alloc, method.text.as_slice()),
+        None => members.null(key),
+        Some(method) => members.text(key, method.text.as_slice()),
     }
 }
 
-/// Metadata: an object with a text for each name.
-pub fn metadata(alloc: Global, metadata: &Metadata) -> Result<Doc, NoMemory>
+/// Puts metadata at the end: an object with a text for each name.
+pub fn put_metadata(
+    alloc: Global,
+    members: &mut Members,
+    key: &str,
+    metadata: &Metadata,
+) -> Result<(), NoMemory>
+    ensures ok { OnOk result (members.new ≡ members.old ++ (key.now, metadata_doc metadata.now) ∷ []) }
+    ensures err { OnErr result (members.new ≡ members.old) }
+{
+    let texts = texts(alloc, metadata)?;
+    members.put(key, texts)
+}
+
+// An object with a text for each name.
+fn texts(alloc: Global, metadata: &Metadata) -> Result<Doc, NoMemory>
     ensures { IfOk result (λ doc. doc ≡ metadata_doc metadata.now) }
 {
     let mut members = Members::new(alloc);

@@ -8,6 +8,6 @@ unfolding balance_doc
 returns g c =
     c.done.ensures
     ∙ ap Object
-    (c.in_ok-put-2.ensures.ok
-    ∙ rw (c.in_ok-word.ensures.ok, c.in_ok-truth.ensures.ok, c.in_ok-put.ensures.ok, c.new-members.ensures, c.in_ok-available.ensures, c.in_ok-pending.ensures, c.as_slice.ensures.value, c.as_slice-2.ensures.value, c.in_ok-currencies.ensures)
+    (c.in_ok-put_sums-2.ensures.ok
+    ∙ rw (c.in_ok-word.ensures.ok, c.in_ok-truth.ensures.ok, c.in_ok-put_sums.ensures.ok, c.new-members.ensures, c.as_slice-list.ensures.value, c.in_ok-currencies.ensures)
     refl)

@@ -1,0 +1,7 @@
+//! What no session shows: readers and writers of std that fail, futures that are dropped, tickets, and threads.
+
+mod acquirers;
+mod locks;
+mod sinks;
+mod sources;
+mod tickets;

@@ -1,5 +1,0 @@
-//! Disputes over the rows of one payment.
-
-mod answered;
-mod opened;
-mod rows;

@@ -1,4 +1,0 @@
-//! Words and metadata.
-
-mod metadata;
-mod words;

@@ -1,0 +1,99 @@
+"""Currencies, fees, what charges and refunds come to, and balances. Amounts are in minor units of the currency.
+
+Every amount that changes is a sum over the rows.
+"""
+
+import rows as book_rows
+
+MOST = 99999999
+TWO_DAYS = 172800
+DISPUTE_FEE = 1500
+
+# currency: least amount of a payment, rate of the fee in hundredths of a percent, fixed part of the fee.
+# In the order in which a balance lists them.
+CURRENCIES = {
+    "eur": (50, 150, 25),
+    "gbp": (30, 150, 20),
+    "jpy": (50, 360, 0),
+    "usd": (50, 290, 30),
+}
+
+
+def minimum(currency):
+    return CURRENCIES[currency][0]
+
+
+def fee(currency, amount):
+    """The fee of a captured amount, its rate's part to the nearest unit, a half up."""
+    _, rate, fixed = CURRENCIES[currency]
+    return (amount * rate + 5000) // 10000 + fixed
+
+
+def txns(rows):
+    """The balance transactions; each has one version."""
+    return [row for row in rows if row.kind == "txn"]
+
+
+def captures(rows, charge):
+    """The transactions that a charge was captured by: one, or none."""
+    return [row for row in txns(rows) if row.item["type"] == "charge" and row.item["source"] == charge]
+
+
+def capture_of(rows, charge):
+    return next(iter(captures(rows, charge)), None)
+
+
+def captured(rows, charge):
+    """What was captured of a charge."""
+    return sum(row.item["amount"] for row in captures(rows, charge))
+
+
+def refunded(rows, charge):
+    """What the refunds of a charge gave back."""
+    return sum(row.item["amount"] for row in rows if row.kind == "refund" and row.item["charge"] == charge)
+
+
+def capturable(rows, intent):
+    """What a capture of an intent may still take: what its latest charge authorised, while that is held."""
+    item = book_rows.latest(rows, intent).item
+    if item["status"] != "requires_capture":
+        return 0
+    return book_rows.latest(rows, item["latest_charge"]).item["amount"]
+
+
+def received(rows, intent):
+    """What was captured of all charges of an intent."""
+    charges = {row.object for row in rows if row.kind == "charge" and row.item["intent"] == intent}
+    return sum(captured(rows, charge) for charge in charges)
+
+
+def net(txn):
+    return txn["amount"] - txn["fee"]
+
+
+def balance(rows, account, currency, time):
+    """The available and the pending balance of an account in a currency."""
+    moved = [row.item for row in txns(rows) if row.account == account and row.item["currency"] == currency]
+    available = sum(net(txn) for txn in moved if txn["available_on"] <= time)
+    pending = sum(net(txn) for txn in moved if txn["available_on"] > time)
+    return available, pending
+
+
+def currencies_of(rows, account):
+    """The currencies of an account's transactions, usd where there are none."""
+    used = {row.item["currency"] for row in txns(rows) if row.account == account}
+    return [currency for currency in CURRENCIES if currency in used] or ["usd"]
+
+
+def capture(batch, charge, amount):
+    """Adds the transaction that gives so much of a charge to the balance."""
+    item = batch.item(charge)
+    at_once = item["payment_method"] == "pm_card_bypassPending"
+    batch.add("txn", {
+        "type": "charge",
+        "amount": amount,
+        "currency": item["currency"],
+        "fee": fee(item["currency"], amount),
+        "available_on": batch.time if at_once else batch.time + TWO_DAYS,
+        "source": charge,
+    }, batch.account_of(charge))

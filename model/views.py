@@ -1,0 +1,162 @@
+"""The documents of objects as clients see them, and their JSON text."""
+
+import json
+
+import errors
+import money
+import rows as book_rows
+
+
+def text(document):
+    """Compact JSON, the keys in byte order. Only quotation marks, backslashes and control bytes are escaped."""
+    return json.dumps(document, ensure_ascii=False, separators=(",", ":"), sort_keys=True)
+
+
+def document(batch, number):
+    """The document of an object as it is now."""
+    row = book_rows.latest(batch.rows, number)
+    return DOCUMENTS[row.kind](batch.rows, number, row.item, batch.time)
+
+
+def printed(rows, number):
+    """The id of an object, or None."""
+    return None if number is None else book_rows.printed_id(rows[number - 1].kind, number)
+
+
+def common(rows, number):
+    return {"id": printed(rows, number), "created": book_rows.created(rows, number)}
+
+
+def retrieve(kind):
+    """The call that shows the account's object of a kind."""
+    def call(batch, identity, _given):
+        return document(batch, batch.owned(identity, kind))
+    return call
+
+
+def intent(rows, number, item, _time):
+    return {
+        **common(rows, number),
+        "amount": item["amount"],
+        "amount_capturable": money.capturable(rows, number),
+        "amount_received": money.received(rows, number),
+        "application_fee_amount": None,
+        "cancellation_reason": item["reason"],
+        "capture_method": item["capture_method"],
+        "client_secret": printed(rows, number) + "_secret_payhost",
+        "currency": item["currency"],
+        "description": item["description"],
+        "last_payment_error": errors.error_object(item["error"]) if item["error"] else None,
+        "latest_charge": printed(rows, item["latest_charge"]),
+        "livemode": False,
+        "metadata": item["metadata"],
+        "next_action": {"type": "payhost_authenticate"} if item["status"] == "requires_action" else None,
+        "object": "payment_intent",
+        "payment_method": item["payment_method"],
+        "status": item["status"],
+        "transfer_data": None,
+        "transfer_group": item["transfer_group"],
+    }
+
+
+def charge(rows, number, item, _time):
+    capture = money.capture_of(rows, number)
+    captured = money.captured(rows, number)
+    refunded = money.refunded(rows, number)
+    return {
+        **common(rows, number),
+        "amount": item["amount"],
+        "amount_captured": captured,
+        "amount_refunded": refunded,
+        "application_fee": None,
+        "application_fee_amount": None,
+        "balance_transaction": printed(rows, capture.object) if capture else None,
+        "captured": capture is not None,
+        "currency": item["currency"],
+        "description": item["description"],
+        "disputed": item["dispute"] is not None,
+        "failure_code": "card_declined" if item["status"] == "failed" else None,
+        "livemode": False,
+        "metadata": item["metadata"],
+        "object": "charge",
+        "paid": item["status"] != "failed",
+        "payment_intent": printed(rows, item["intent"]),
+        "payment_method": item["payment_method"],
+        "refunded": refunded == captured and captured > 0,
+        "source_transfer": None,
+        "status": item["status"],
+        "transfer": None,
+        "transfer_group": item["transfer_group"],
+    }
+
+
+def txn_from(rows, source):
+    """The first transaction that comes from an object."""
+    return next(row.object for row in money.txns(rows) if row.item["source"] == source)
+
+
+def refund(rows, number, item, _time):
+    of = book_rows.latest(rows, item["charge"]).item
+    return {
+        **common(rows, number),
+        "amount": item["amount"],
+        "balance_transaction": printed(rows, txn_from(rows, number)),
+        "charge": printed(rows, item["charge"]),
+        "currency": of["currency"],
+        "metadata": item["metadata"],
+        "object": "refund",
+        "payment_intent": printed(rows, of["intent"]),
+        "reason": item["reason"],
+        "status": "succeeded",
+        "transfer_reversal": None,
+    }
+
+
+def dispute(rows, number, item, _time):
+    of = book_rows.latest(rows, item["charge"]).item
+    return {
+        **common(rows, number),
+        "amount": money.captured(rows, item["charge"]),
+        "charge": printed(rows, item["charge"]),
+        "currency": of["currency"],
+        "evidence": {"uncategorized_text": item["evidence"]},
+        "livemode": False,
+        "object": "dispute",
+        "payment_intent": printed(rows, of["intent"]),
+        "reason": "fraudulent",
+        "status": item["status"],
+    }
+
+
+def txn(rows, number, item, time):
+    return {
+        **common(rows, number),
+        "amount": item["amount"],
+        "available_on": item["available_on"],
+        "currency": item["currency"],
+        "fee": item["fee"],
+        "net": money.net(item),
+        "object": "balance_transaction",
+        "source": printed(rows, item["source"]),
+        "status": "available" if item["available_on"] <= time else "pending",
+        "type": item["type"],
+    }
+
+
+DOCUMENTS = {"intent": intent, "charge": charge, "refund": refund, "dispute": dispute, "txn": txn}
+
+
+def balance(batch, _identity, _given):
+    """The call that shows the balance of the account."""
+    sums = [(currency, money.balance(batch.rows, batch.account, currency, batch.time))
+            for currency in money.currencies_of(batch.rows, batch.account)]
+    return {
+        "available": [{"amount": available, "currency": currency} for currency, (available, _) in sums],
+        "livemode": False,
+        "object": "balance",
+        "pending": [{"amount": pending, "currency": currency} for currency, (_, pending) in sums],
+    }
+
+
+def clock(time):
+    return {"now": time, "object": "payhost.clock"}
