@@ -556,7 +556,6 @@ clock_good count now moment = at (nat_lt moment now) refl
 -- a call that is carried out
 carried_good : (rows : List Row) (now place : ℕ) (c : Call) → IsGood (length rows) now (carried rows now c (empty_batch (length rows) now place))
 carried_good rows now place (call.CreateIntent c) = created_fit rows now place c
-carried_good rows now place (call.GetIntent c) = retrieved_fit rows now place kind.Intent c.id
 carried_good rows now place (call.UpdateIntent c) =
     found_fit (length rows) (update_of platform c (empty_batch (length rows) now place)) (owned_named rows platform kind.Intent c.id)
     (update_fit (length rows) now place platform c)
@@ -567,10 +566,7 @@ carried_good rows now place (call.CaptureIntent c) = capture_fit rows now place 
 carried_good rows now place (call.CancelIntent c) =
     found_fit (length rows) (cancel_of platform c.cancellation_reason (empty_batch (length rows) now place)) (owned_named rows platform kind.Intent c.id)
     (cancel_fit (length rows) now place platform c.cancellation_reason)
-carried_good rows now place (call.GetCharge c) = retrieved_fit rows now place kind.Charge c.id
 carried_good rows now place (call.CreateRefund c) = refund_fit rows now place c
-carried_good rows now place (call.GetRefund c) = retrieved_fit rows now place kind.Refund c.id
-carried_good rows now place (call.GetDispute c) = retrieved_fit rows now place kind.Dispute c.id
 carried_good rows now place (call.SendEvidence c) =
     dispute_found (length rows) (evidence_of c.uncategorized_text (empty_batch (length rows) now place)) (owned_named rows platform kind.Dispute c.id)
     (evidence_fit (length rows) now place c.uncategorized_text)
@@ -578,7 +574,7 @@ carried_good rows now place (call.CloseDispute c) =
     dispute_found (length rows) (close_of (empty_batch (length rows) now place)) (owned_named rows platform kind.Dispute c.id)
     (close_fit (length rows) now place)
 carried_good rows now place (call.GetBalance c) = tt
-carried_good rows now place (call.GetTxn c) = retrieved_fit rows now place kind.Txn c.id
+carried_good rows now place (call.Retrieve c) = retrieved_fit rows now place c.kind c.id
 carried_good rows now place (call.SetClock c) = clock_good (length rows) now c.now
 carried_good rows now place (call.Authenticate c) = authenticated_fit rows now place c c.outcome
 

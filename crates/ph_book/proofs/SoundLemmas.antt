@@ -125,21 +125,17 @@ carried_comes state entry (call.CreateIntent c) ready fit =
     chosen (AddsSound state) c.confirm (create_confirmed_outcome state.rows platform c (batch_after state entry))
     (create_outcome state.rows platform c (batch_after state entry))
     (create_confirmed_keeps state entry platform c ready fit.texts) (create_keeps state entry platform c ready fit.texts)
-carried_comes state entry (call.GetIntent c) ready fit = found_adds state entry (owned_named state.rows platform kind.Intent c.id) ready.sound
 carried_comes state entry (call.UpdateIntent c) ready fit = update_keeps state entry platform c ready fit.texts
 carried_comes state entry (call.ConfirmIntent c) ready fit = confirm_keeps state entry platform c ready fit.texts
 carried_comes state entry (call.CaptureIntent c) ready fit =
     capture_opened state (capture_outcome state.rows platform c (batch_after state entry)) ready (capture_quiet state.rows state.time entry c)
     (capture_keeps state entry platform c ready refl)
 carried_comes state entry (call.CancelIntent c) ready fit = cancel_keeps state entry platform c ready refl
-carried_comes state entry (call.GetCharge c) ready fit = found_adds state entry (owned_named state.rows platform kind.Charge c.id) ready.sound
 carried_comes state entry (call.CreateRefund c) ready fit = refund_keeps state entry platform c ready fit.texts
-carried_comes state entry (call.GetRefund c) ready fit = found_adds state entry (owned_named state.rows platform kind.Refund c.id) ready.sound
-carried_comes state entry (call.GetDispute c) ready fit = found_adds state entry (owned_named state.rows platform kind.Dispute c.id) ready.sound
 carried_comes state entry (call.SendEvidence c) ready fit = evidence_keeps state entry platform c ready fit.texts
 carried_comes state entry (call.CloseDispute c) ready fit = close_keeps state entry platform c ready refl
 carried_comes state entry (call.GetBalance c) ready fit = tt
-carried_comes state entry (call.GetTxn c) ready fit = found_adds state entry (owned_named state.rows platform kind.Txn c.id) ready.sound
+carried_comes state entry (call.Retrieve c) ready fit = found_adds state entry (owned_named state.rows platform c.kind c.id) ready.sound
 carried_comes state entry (call.SetClock c) ready fit = clock_comes state c.now fit.shown
 carried_comes state entry (call.Authenticate c) ready fit = authenticated_comes state entry c c.outcome ready
 

@@ -172,35 +172,25 @@ fn added(given: Result<u64, Refusal>) -> Result<Carried, Refusal>
     }
 }
 
-// Carries a call out: one arm for each row of the table of calls.
+// Carries a call out.
 fn carry(alloc: Global, store: &Store, call: &Call, batch: &mut Batch) -> Result<Carried, Refusal>
     ensures { Comes (carried store.now.rows store.now.time call.now batch.old) result batch.new }
 {
     match call {
         Call::CreateIntent(call) => added(make(alloc, store, call, batch)),
-        Call::GetIntent(call) => {
-            added(retrieve(alloc, store, Kind::Intent, call.id.as_slice(), batch))
-        }
         Call::UpdateIntent(call) => added(update(alloc, store, PLATFORM, call, batch)),
         Call::ConfirmIntent(call) => {
             added(begin(alloc, store, PLATFORM, &Begin::Confirm(call), batch))
         }
         Call::CaptureIntent(call) => added(take(alloc, store, call, batch)),
         Call::CancelIntent(call) => added(cancel(alloc, store, PLATFORM, call, batch)),
-        Call::GetCharge(call) => {
-            added(retrieve(alloc, store, Kind::Charge, call.id.as_slice(), batch))
-        }
         Call::CreateRefund(call) => added(refund(alloc, store, PLATFORM, call, batch)),
-        Call::GetRefund(call) => {
-            added(retrieve(alloc, store, Kind::Refund, call.id.as_slice(), batch))
-        }
-        Call::GetDispute(call) => {
-            added(retrieve(alloc, store, Kind::Dispute, call.id.as_slice(), batch))
-        }
         Call::SendEvidence(call) => added(evidence(alloc, store, PLATFORM, call, batch)),
         Call::CloseDispute(call) => added(close(alloc, store, PLATFORM, call, batch)),
+        Call::Retrieve(call) => {
+            added(retrieve(alloc, store, call.kind, call.id.as_slice(), batch))
+        }
         Call::GetBalance(_) => balance(alloc, store),
-        Call::GetTxn(call) => added(retrieve(alloc, store, Kind::Txn, call.id.as_slice(), batch)),
         Call::SetClock(call) => set_clock(alloc, store.time(), call.now),
         Call::Authenticate(call) => added(authenticate(alloc, store, call, batch)),
     }
@@ -216,7 +206,7 @@ fn read_and_carry(
     ensures { Comes (read_upshot store.now.rows store.now.time (reading_of raw.now) batch.old) result batch.new }
 {
     match read_call(alloc, raw) {
-        Ok(call) => carry(alloc, store, &call, batch),
+        Ok(request) => carry(alloc, store, &request.call, batch),
         Err(refusal) => Err(refusal),
     }
 }

@@ -1,5 +1,5 @@
 -- Refusals of a request, and the further checks of a call once its parameters are read.
-use Rattle.std.specs.Prelude.{◌≡◌, Bool, if◌then◌else◌, List, [], ◌∷◌, Option, Some, None, Result, Ok, Err}
+use Rattle.std.specs.Prelude.{◌≡◌, ◌⊎◌, Bool, if◌then◌else◌, List, [], ◌∷◌, Option, Some, None, Result, Ok, Err}
 use Rattle.ph_errors.specs.declared.api_error.ApiError.{ApiError}
 use Rattle.ph_errors.specs.declared.refusal.Refusal.{Refusal}
 use Rattle.ph_errors.specs.declared.refusal.Refusal.TheVariants as refusal
@@ -18,3 +18,7 @@ unless_error (Some error) made = Err error
 abbrev pub Refuses : {X : Type 0} → Result X ApiError → Refusal → Type 0
 Refuses outcome (refusal.Api error) = outcome ≡ Err error
 Refuses outcome refusal.NoMemory = Unit {0}
+
+-- the status of the error is one of those by which a request is refused as no call: 400, 404, or 503 for want of memory
+abbrev pub IsNoCall : ApiError → Type 0
+IsNoCall error = (error.status ≡ 400) ⊎ ((error.status ≡ 404) ⊎ (error.status ≡ 503))

@@ -19,6 +19,6 @@ pub use call::{
     Authenticate, Call, CancelIntent, CaptureIntent, CloseDispute, ConfirmIntent, CreateIntent,
     CreateRefund, GetBalance, Retrieve, SendEvidence, SetClock, UpdateIntent,
 };
-pub use laws::readings_are_fit;
+pub use laws::{readings_are_fit, readings_are_refused};
 pub use ph_kinds::Authentication;
 pub use reading::{Request, read_call};
