@@ -260,12 +260,12 @@ call_fit name.CreateIntent id leaves w =
     checked_fit create_intent_error call.CreateIntent (given (params_of name.CreateIntent) create_intent leaves)
     (given_holds (params_of name.CreateIntent) create_intent (λ c. IsFit (call.CreateIntent c)) leaves w
     (λ amount _ currency _ method m confirm _ capture _ description d meta t group g.
-        record { texts = intent_texts_utf8 method description meta group m d t g; shown = tt }))
+    record { texts = intent_texts_utf8 method description meta group m d t g; shown = tt }))
 call_fit name.UpdateIntent id leaves w =
     as_call_fit call.UpdateIntent (given (params_of name.UpdateIntent) (update_intent id) leaves)
     (given_holds (params_of name.UpdateIntent) (update_intent id) (λ c. IsFit (call.UpdateIntent c)) leaves w
     (λ amount _ currency _ method m description d meta t group g.
-        record { texts = intent_texts_utf8 method description meta group m d t g; shown = tt }))
+    record { texts = intent_texts_utf8 method description meta group m d t g; shown = tt }))
 call_fit name.ConfirmIntent id leaves w =
     as_call_fit call.ConfirmIntent (given (params_of name.ConfirmIntent) (confirm_intent id) leaves)
     (given_holds (params_of name.ConfirmIntent) (confirm_intent id) (λ c. IsFit (call.ConfirmIntent c)) leaves w

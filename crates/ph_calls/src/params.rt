@@ -106,7 +106,11 @@ pub fn metadata(alloc: Global, form: &Form, name: &[u8]) -> Result<Option<Meta>,
 
 /// The capture method under a name.
 #[tactic(auto, unfolding(crate::specs::Parameters::may))]
-pub fn capture_method(alloc: Global, form: &Form, name: &[u8]) -> Result<Option<CaptureMethod>, Refusal>
+pub fn capture_method(
+    alloc: Global,
+    form: &Form,
+    name: &[u8],
+) -> Result<Option<CaptureMethod>, Refusal>
     ensures value { IfOk result (λ value. may kind.CaptureMethod name.now form.now ≡ Ok value) }
     ensures refusal { IfErr result (Refuses (may kind.CaptureMethod name.now form.now)) }
 {
@@ -115,7 +119,11 @@ pub fn capture_method(alloc: Global, form: &Form, name: &[u8]) -> Result<Option<
 
 /// The reason for a cancel under a name.
 #[tactic(auto, unfolding(crate::specs::Parameters::may))]
-pub fn cancellation_reason(alloc: Global, form: &Form, name: &[u8]) -> Result<Option<CancellationReason>, Refusal>
+pub fn cancellation_reason(
+    alloc: Global,
+    form: &Form,
+    name: &[u8],
+) -> Result<Option<CancellationReason>, Refusal>
     ensures value { IfOk result (λ value. may kind.CancellationReason name.now form.now ≡ Ok value) }
     ensures refusal { IfErr result (Refuses (may kind.CancellationReason name.now form.now)) }
 {
@@ -124,7 +132,11 @@ pub fn cancellation_reason(alloc: Global, form: &Form, name: &[u8]) -> Result<Op
 
 /// The reason for a refund under a name.
 #[tactic(auto, unfolding(crate::specs::Parameters::may))]
-pub fn refund_reason(alloc: Global, form: &Form, name: &[u8]) -> Result<Option<RefundReason>, Refusal>
+pub fn refund_reason(
+    alloc: Global,
+    form: &Form,
+    name: &[u8],
+) -> Result<Option<RefundReason>, Refusal>
     ensures value { IfOk result (λ value. may kind.RefundReason name.now form.now ≡ Ok value) }
     ensures refusal { IfErr result (Refuses (may kind.RefundReason name.now form.now)) }
 {
@@ -133,7 +145,11 @@ pub fn refund_reason(alloc: Global, form: &Form, name: &[u8]) -> Result<Option<R
 
 /// What an authentication comes to, under a name.
 #[tactic(auto, unfolding(crate::specs::Parameters::may))]
-pub fn authentication(alloc: Global, form: &Form, name: &[u8]) -> Result<Option<Authentication>, Refusal>
+pub fn authentication(
+    alloc: Global,
+    form: &Form,
+    name: &[u8],
+) -> Result<Option<Authentication>, Refusal>
     ensures value { IfOk result (λ value. may kind.Authentication name.now form.now ≡ Ok value) }
     ensures refusal { IfErr result (Refuses (may kind.Authentication name.now form.now)) }
 {
@@ -142,12 +158,7 @@ pub fn authentication(alloc: Global, form: &Form, name: &[u8]) -> Result<Option<
 
 /// The text of at most so many characters (Unicode scalar values) under a name.
 #[tactic(auto, unfolding(crate::specs::Parameters::may))]
-pub fn text(
-    alloc: Global,
-    form: &Form,
-    name: &[u8],
-    most: usize,
-) -> Result<Option<Bytes>, Refusal>
+pub fn text(alloc: Global, form: &Form, name: &[u8], most: usize) -> Result<Option<Bytes>, Refusal>
     ensures value { IfOk result (λ value. may (kind.Text most) name.now form.now ≡ Ok value) }
     ensures refusal { IfErr result (Refuses (may (kind.Text most) name.now form.now)) }
 {

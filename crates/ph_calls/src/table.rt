@@ -30,21 +30,54 @@ macro_rules! post {
 
 static TABLE: [TableRow; 16] = [
     post!(Path::Plain(b"/v1/payment_intents"), Name::CreateIntent),
-    get!(Path::WithId(b"/v1/payment_intents/", b""), Name::Retrieve(Kind::Intent)),
-    post!(Path::WithId(b"/v1/payment_intents/", b""), Name::UpdateIntent),
-    post!(Path::WithId(b"/v1/payment_intents/", b"/confirm"), Name::ConfirmIntent),
-    post!(Path::WithId(b"/v1/payment_intents/", b"/capture"), Name::CaptureIntent),
-    post!(Path::WithId(b"/v1/payment_intents/", b"/cancel"), Name::CancelIntent),
-    get!(Path::WithId(b"/v1/charges/", b""), Name::Retrieve(Kind::Charge)),
+    get!(
+        Path::WithId(b"/v1/payment_intents/", b""),
+        Name::Retrieve(Kind::Intent)
+    ),
+    post!(
+        Path::WithId(b"/v1/payment_intents/", b""),
+        Name::UpdateIntent
+    ),
+    post!(
+        Path::WithId(b"/v1/payment_intents/", b"/confirm"),
+        Name::ConfirmIntent
+    ),
+    post!(
+        Path::WithId(b"/v1/payment_intents/", b"/capture"),
+        Name::CaptureIntent
+    ),
+    post!(
+        Path::WithId(b"/v1/payment_intents/", b"/cancel"),
+        Name::CancelIntent
+    ),
+    get!(
+        Path::WithId(b"/v1/charges/", b""),
+        Name::Retrieve(Kind::Charge)
+    ),
     post!(Path::Plain(b"/v1/refunds"), Name::CreateRefund),
-    get!(Path::WithId(b"/v1/refunds/", b""), Name::Retrieve(Kind::Refund)),
-    get!(Path::WithId(b"/v1/disputes/", b""), Name::Retrieve(Kind::Dispute)),
+    get!(
+        Path::WithId(b"/v1/refunds/", b""),
+        Name::Retrieve(Kind::Refund)
+    ),
+    get!(
+        Path::WithId(b"/v1/disputes/", b""),
+        Name::Retrieve(Kind::Dispute)
+    ),
     post!(Path::WithId(b"/v1/disputes/", b""), Name::SendEvidence),
-    post!(Path::WithId(b"/v1/disputes/", b"/close"), Name::CloseDispute),
+    post!(
+        Path::WithId(b"/v1/disputes/", b"/close"),
+        Name::CloseDispute
+    ),
     get!(Path::Plain(b"/v1/balance"), Name::GetBalance),
-    get!(Path::WithId(b"/v1/balance_transactions/", b""), Name::Retrieve(Kind::Txn)),
+    get!(
+        Path::WithId(b"/v1/balance_transactions/", b""),
+        Name::Retrieve(Kind::Txn)
+    ),
     post!(Path::Plain(b"/_host/clock"), Name::SetClock),
-    post!(Path::WithId(b"/_host/payment_intents/", b"/authenticate"), Name::Authenticate),
+    post!(
+        Path::WithId(b"/_host/payment_intents/", b"/authenticate"),
+        Name::Authenticate
+    ),
 ];
 
 /// The rows of the table.
@@ -94,7 +127,13 @@ pub fn names_of(call: Name) -> &'static [&'static [u8]]
         ],
         Name::CaptureIntent => &[b"amount_to_capture"],
         Name::CancelIntent => &[b"cancellation_reason"],
-        Name::CreateRefund => &[b"charge", b"payment_intent", b"amount", b"reason", b"metadata"],
+        Name::CreateRefund => &[
+            b"charge",
+            b"payment_intent",
+            b"amount",
+            b"reason",
+            b"metadata",
+        ],
         Name::SendEvidence => &[b"evidence[uncategorized_text]", b"submit"],
         Name::SetClock => &[b"now"],
         Name::Authenticate => &[b"outcome"],

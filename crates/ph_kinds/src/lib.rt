@@ -18,8 +18,8 @@ pub use characters::character_count;
 pub use flaw::Flaw;
 pub use form_values::{
     address_at, amount_at, authentication_at, cancellation_reason_at, capture_method_at,
-    currency_at, events_at, id_at, metadata_at, number_at, payment_method_at, refund_reason_at, text_at,
-    truth_at,
+    currency_at, events_at, id_at, metadata_at, number_at, payment_method_at, refund_reason_at,
+    text_at, truth_at,
 };
 pub use kept::first_metadata;
 pub use lists::{Pairs, Texts};

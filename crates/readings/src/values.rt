@@ -7,8 +7,9 @@ use crate::line::{Line, said, unknown};
 use ph_base::NoMemory;
 use ph_form::{Form, read_form};
 use ph_kinds::{
-    Flaw, Meta, address_at, amount_at, authentication_at, cancellation_reason_at, capture_method_at,
-    currency_at, events_at, id_at, metadata_at, number_at, payment_method_at, refund_reason_at, truth_at,
+    Flaw, Meta, address_at, amount_at, authentication_at, cancellation_reason_at,
+    capture_method_at, currency_at, events_at, id_at, metadata_at, number_at, payment_method_at,
+    refund_reason_at, truth_at,
 };
 use std::alloc::Global;
 
@@ -45,9 +46,15 @@ fn taken<T>(read: Result<Option<T>, Flaw>) -> Result<Option<T>, NoMemory> {
 // A value that takes no memory.
 fn plain(alloc: Global, form: &Form, word: &str, name: &[u8]) -> Result<Vec<u8>, NoMemory> {
     let text = match word {
-        "amount" => format!(in alloc; "{:?}", taken(amount_at(form, name))?.map(|amount| amount.units()))?,
+        "amount" => format!(in alloc;
+            "{:?}",
+            taken(amount_at(form, name))?.map(|amount| amount.units())
+        )?,
         "authentication" => format!(in alloc; "{:?}", taken(authentication_at(form, name))?)?,
-        "cancellation reason" => format!(in alloc; "{:?}", taken(cancellation_reason_at(form, name))?)?,
+        "cancellation reason" => format!(in alloc;
+            "{:?}",
+            taken(cancellation_reason_at(form, name))?
+        )?,
         "capture method" => format!(in alloc; "{:?}", taken(capture_method_at(form, name))?)?,
         "currency" => format!(in alloc; "{:?}", taken(currency_at(form, name))?)?,
         "number" => format!(in alloc; "{:?}", taken(number_at(form, name))?)?,
