@@ -6,78 +6,41 @@ ghost use Rattle.ph_calls.specs.Table.{line_of, params_of, table};
 use crate::row::{Name, Path, TableRow};
 use ph_base::Kind;
 
-/// A row of a call that shows something.
-macro_rules! get {
-    ($path:expr, $call:expr) => {
+/// A row: a method, a path with an id between two texts or of one text, and the call.
+macro_rules! row {
+    ($method:literal $path:literal => $call:expr) => {
         TableRow {
-            method: b"GET",
-            path: $path,
+            method: $method,
+            path: Path::Plain($path),
             call: $call,
         }
     };
-}
-
-/// A row of a call that changes something.
-macro_rules! post {
-    ($path:expr, $call:expr) => {
+    ($method:literal $front:literal id $back:literal => $call:expr) => {
         TableRow {
-            method: b"POST",
-            path: $path,
+            method: $method,
+            path: Path::WithId($front, $back),
             call: $call,
         }
     };
 }
 
 static TABLE: [TableRow; 16] = [
-    post!(Path::Plain(b"/v1/payment_intents"), Name::CreateIntent),
-    get!(
-        Path::WithId(b"/v1/payment_intents/", b""),
-        Name::Retrieve(Kind::Intent)
-    ),
-    post!(
-        Path::WithId(b"/v1/payment_intents/", b""),
-        Name::UpdateIntent
-    ),
-    post!(
-        Path::WithId(b"/v1/payment_intents/", b"/confirm"),
-        Name::ConfirmIntent
-    ),
-    post!(
-        Path::WithId(b"/v1/payment_intents/", b"/capture"),
-        Name::CaptureIntent
-    ),
-    post!(
-        Path::WithId(b"/v1/payment_intents/", b"/cancel"),
-        Name::CancelIntent
-    ),
-    get!(
-        Path::WithId(b"/v1/charges/", b""),
-        Name::Retrieve(Kind::Charge)
-    ),
-    post!(Path::Plain(b"/v1/refunds"), Name::CreateRefund),
-    get!(
-        Path::WithId(b"/v1/refunds/", b""),
-        Name::Retrieve(Kind::Refund)
-    ),
-    get!(
-        Path::WithId(b"/v1/disputes/", b""),
-        Name::Retrieve(Kind::Dispute)
-    ),
-    post!(Path::WithId(b"/v1/disputes/", b""), Name::SendEvidence),
-    post!(
-        Path::WithId(b"/v1/disputes/", b"/close"),
-        Name::CloseDispute
-    ),
-    get!(Path::Plain(b"/v1/balance"), Name::GetBalance),
-    get!(
-        Path::WithId(b"/v1/balance_transactions/", b""),
-        Name::Retrieve(Kind::Txn)
-    ),
-    post!(Path::Plain(b"/_host/clock"), Name::SetClock),
-    post!(
-        Path::WithId(b"/_host/payment_intents/", b"/authenticate"),
-        Name::Authenticate
-    ),
+    row!(b"POST" b"/v1/payment_intents" => Name::CreateIntent),
+    row!(b"GET" b"/v1/payment_intents/" id b"" => Name::Retrieve(Kind::Intent)),
+    row!(b"POST" b"/v1/payment_intents/" id b"" => Name::UpdateIntent),
+    row!(b"POST" b"/v1/payment_intents/" id b"/confirm" => Name::ConfirmIntent),
+    row!(b"POST" b"/v1/payment_intents/" id b"/capture" => Name::CaptureIntent),
+    row!(b"POST" b"/v1/payment_intents/" id b"/cancel" => Name::CancelIntent),
+    row!(b"GET" b"/v1/charges/" id b"" => Name::Retrieve(Kind::Charge)),
+    row!(b"POST" b"/v1/refunds" => Name::CreateRefund),
+    row!(b"GET" b"/v1/refunds/" id b"" => Name::Retrieve(Kind::Refund)),
+    row!(b"GET" b"/v1/disputes/" id b"" => Name::Retrieve(Kind::Dispute)),
+    row!(b"POST" b"/v1/disputes/" id b"" => Name::SendEvidence),
+    row!(b"POST" b"/v1/disputes/" id b"/close" => Name::CloseDispute),
+    row!(b"GET" b"/v1/balance" => Name::GetBalance),
+    row!(b"GET" b"/v1/balance_transactions/" id b"" => Name::Retrieve(Kind::Txn)),
+    row!(b"POST" b"/_host/clock" => Name::SetClock),
+    row!(b"POST" b"/_host/payment_intents/" id b"/authenticate" => Name::Authenticate),
 ];
 
 /// The rows of the table.
