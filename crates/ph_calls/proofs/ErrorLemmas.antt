@@ -1,7 +1,7 @@
 -- The errors of requests that are no calls have few statuses.
-use Rattle.std.proofs.Common.{◌≡◌, ℕ, Bool, true, false, cond, not, ◌==◌, ◌&&◌, is_none, nat_lt, List, [], ◌∷◌, map, Option, Some, None, option_map, Result, Ok, Err, IfErr, IfSome, find, inl, inr, refl, codes}
+use Rattle.std.proofs.Common.{◌≡◌, ℕ, Bool, true, false, cond, not, ◌&&◌, is_none, nat_lt, List, [], ◌∷◌, map, Option, Some, None, option_map, Result, Ok, Err, IfErr, IfSome, find, inl, inr, refl, codes}
 use Rattle.ph_errors.specs.declared.api_error.ApiError.{ApiError}
-use Rattle.ph_errors.specs.Table.{Problem, UnrecognizedUrl, BadName, Clash, TooDeep, ParameterUnknown, ParameterMissing, ParameterInvalidInteger, AmountTooSmall, AmountTooLarge, InvalidValue, NoSuchPaymentMethod, NoMemory, error_of}
+use Rattle.ph_errors.specs.Table.{UnrecognizedUrl, BadName, Clash, TooDeep, ParameterUnknown, ParameterMissing, ParameterInvalidInteger, AmountTooSmall, AmountTooLarge, InvalidValue, NoSuchPaymentMethod, NoMemory, error_of}
 use Rattle.ph_form.specs.declared.fault.FormFault.{FormFault}
 use Rattle.ph_form.specs.declared.fault.FormFault.TheVariants as fault
 use Rattle.ph_form.specs.declared.leaf.Leaf.{Leaf}

@@ -37,7 +37,7 @@ use Rattle.ph_calls.specs.declared.row.Name.TheVariants as name
 use Rattle.ph_calls.specs.Check.{unless_error}
 use Rattle.ph_calls.specs.Clock.{set_clock, set_clock_error}
 use Rattle.ph_calls.specs.Disputes.{send_evidence}
-use Rattle.ph_calls.specs.Fit.{IsFit, kept_texts}
+use Rattle.ph_calls.specs.Fit.{IsFit}
 use Rattle.ph_calls.specs.Intents.{authenticate_intent, cancel_intent, capture_intent, confirm_intent, create_intent, create_intent_error, update_intent}
 use Rattle.ph_calls.specs.Parameters.{Parameter, Must, May, Ignored, Takes, given, may, must, unless_flawed, unless_missing, with_value}
 use Rattle.ph_calls.specs.Reading.{as_call, call_of, checked, form_of, reading_at, reading_by, reading_of}

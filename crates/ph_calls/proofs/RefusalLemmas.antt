@@ -1,5 +1,5 @@
 -- A refusal in place of a value is a refusal of what would have been made of it.
-use Rattle.std.proofs.Common.{Result, Ok, Err, ap}
+use Rattle.std.proofs.Common.{Result, ap}
 use Rattle.ph_errors.specs.declared.api_error.ApiError.{ApiError}
 use Rattle.ph_errors.specs.declared.refusal.Refusal.{Refusal}
 use Rattle.ph_errors.specs.declared.refusal.Refusal.TheVariants as refusal

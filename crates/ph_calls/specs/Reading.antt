@@ -1,5 +1,5 @@
 -- Reading a request as a call.
-use Rattle.std.specs.Prelude.{ℕ, List, [], Option, Some, None, map, unwrap_or, Result, Ok, Err}
+use Rattle.std.specs.Prelude.{ℕ, List, [], Option, map, unwrap_or, Result, Ok, Err}
 use Rattle.ph_errors.specs.declared.api_error.ApiError.{ApiError}
 use Rattle.ph_errors.specs.Table.{Problem, UnrecognizedUrl, BadName, Clash, TooDeep, NoMemory, error_of}
 use Rattle.ph_form.specs.declared.fault.FormFault.{FormFault}
