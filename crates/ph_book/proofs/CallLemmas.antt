@@ -90,20 +90,16 @@ carried_keeps state entry (call.CreateIntent c) ready fit =
     (create_outcome state.rows platform c (batch_after state entry))
     (kept_few state 3 most_rows (create_confirmed_outcome state.rows platform c (batch_after state entry)) (create_confirmed_keeps state entry platform c ready fit.texts) (omega arith))
     (kept_few state 2 most_rows (create_outcome state.rows platform c (batch_after state entry)) (create_keeps state entry platform c ready fit.texts) (omega arith))
-carried_keeps state entry (call.GetIntent c) ready fit = retrieved_keeps state entry kind.Intent c.id ready.sound
 carried_keeps state entry (call.UpdateIntent c) ready fit = kept_few state 1 most_rows (update_outcome state.rows platform c (batch_after state entry)) (update_keeps state entry platform c ready fit.texts) (omega arith)
 carried_keeps state entry (call.ConfirmIntent c) ready fit = kept_few state 2 most_rows (confirm_outcome state.rows platform c (batch_after state entry)) (confirm_keeps state entry platform c ready fit.texts) (omega arith)
 carried_keeps state entry (call.CaptureIntent c) ready fit =
     opened_keeps state 5 (capture_outcome state.rows platform c (batch_after state entry)) ready (omega arith) (capture_keeps state entry platform c ready refl)
 carried_keeps state entry (call.CancelIntent c) ready fit = kept_few state 2 most_rows (cancel_outcome state.rows platform c (batch_after state entry)) (cancel_keeps state entry platform c ready refl) (omega arith)
-carried_keeps state entry (call.GetCharge c) ready fit = retrieved_keeps state entry kind.Charge c.id ready.sound
 carried_keeps state entry (call.CreateRefund c) ready fit = kept_few state 4 most_rows (refund_outcome state.rows platform c (batch_after state entry)) (refund_keeps state entry platform c ready fit.texts) (omega arith)
-carried_keeps state entry (call.GetRefund c) ready fit = retrieved_keeps state entry kind.Refund c.id ready.sound
-carried_keeps state entry (call.GetDispute c) ready fit = retrieved_keeps state entry kind.Dispute c.id ready.sound
 carried_keeps state entry (call.SendEvidence c) ready fit = kept_few state 3 most_rows (evidence_outcome state.rows platform c (batch_after state entry)) (evidence_keeps state entry platform c ready fit.texts) (omega arith)
 carried_keeps state entry (call.CloseDispute c) ready fit = kept_few state 2 most_rows (close_outcome state.rows platform c (batch_after state entry)) (close_keeps state entry platform c ready refl) (omega arith)
+carried_keeps state entry (call.Retrieve c) ready fit = retrieved_keeps state entry c.kind c.id ready.sound
 carried_keeps state entry (call.GetBalance c) ready fit = tt
-carried_keeps state entry (call.GetTxn c) ready fit = retrieved_keeps state entry kind.Txn c.id ready.sound
 carried_keeps state entry (call.SetClock c) ready fit = clock_keeps state c.now fit.shown
 carried_keeps state entry (call.Authenticate c) ready fit = kept_few state 2 most_rows (authenticated state.rows c (batch_after state entry) c.outcome) (authenticated_keeps state entry c c.outcome ready) (omega arith)
 

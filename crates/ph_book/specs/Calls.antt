@@ -81,19 +81,15 @@ clock_set now moment = if nat_lt moment now then Makes (Refuses (error_of ClockB
 -- what a call comes to when it is carried out at a time
 abbrev pub carried : List Row → ℕ → Call → BatchState → Upshot
 carried rows now (call.CreateIntent c) batch = Makes (created rows c batch)
-carried rows now (call.GetIntent c) batch = Makes (retrieved rows kind.Intent c.id batch)
 carried rows now (call.UpdateIntent c) batch = Makes (update_outcome rows platform c batch)
 carried rows now (call.ConfirmIntent c) batch = Makes (confirm_outcome rows platform c batch)
 carried rows now (call.CaptureIntent c) batch = Makes (and_opened rows (capture_outcome rows platform c batch))
 carried rows now (call.CancelIntent c) batch = Makes (cancel_outcome rows platform c batch)
-carried rows now (call.GetCharge c) batch = Makes (retrieved rows kind.Charge c.id batch)
 carried rows now (call.CreateRefund c) batch = Makes (refund_outcome rows platform c batch)
-carried rows now (call.GetRefund c) batch = Makes (retrieved rows kind.Refund c.id batch)
-carried rows now (call.GetDispute c) batch = Makes (retrieved rows kind.Dispute c.id batch)
 carried rows now (call.SendEvidence c) batch = Makes (evidence_outcome rows platform c batch)
 carried rows now (call.CloseDispute c) batch = Makes (close_outcome rows platform c batch)
 carried rows now (call.GetBalance c) batch = Shows (balance_doc platform now rows)
-carried rows now (call.GetTxn c) batch = Makes (retrieved rows kind.Txn c.id batch)
+carried rows now (call.Retrieve c) batch = Makes (retrieved rows c.kind c.id batch)
 carried rows now (call.SetClock c) batch = clock_set now c.now
 carried rows now (call.Authenticate c) batch = Makes (authenticated rows c batch c.outcome)
 

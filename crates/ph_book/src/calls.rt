@@ -214,29 +214,19 @@ fn carry(alloc: Global, store: &Store, call: &Call, batch: &mut Batch) -> Result
 {
     match call {
         Call::CreateIntent(call) => make(alloc, store, call, batch),
-        Call::GetIntent(call) => {
-            added(retrieve(alloc, store, Kind::Intent, call.id.as_slice(), batch))
-        }
         Call::UpdateIntent(call) => added(update(alloc, store, PLATFORM, call, batch)),
         Call::ConfirmIntent(call) => {
             begun(begin(alloc, store, PLATFORM, &Begin::Confirm(call), batch))
         }
         Call::CaptureIntent(call) => added(take(alloc, store, call, batch)),
         Call::CancelIntent(call) => added(cancel(alloc, store, PLATFORM, call, batch)),
-        Call::GetCharge(call) => {
-            added(retrieve(alloc, store, Kind::Charge, call.id.as_slice(), batch))
-        }
         Call::CreateRefund(call) => added(refund(alloc, store, PLATFORM, call, batch)),
-        Call::GetRefund(call) => {
-            added(retrieve(alloc, store, Kind::Refund, call.id.as_slice(), batch))
-        }
-        Call::GetDispute(call) => {
-            added(retrieve(alloc, store, Kind::Dispute, call.id.as_slice(), batch))
-        }
         Call::SendEvidence(call) => added(evidence(alloc, store, PLATFORM, call, batch)),
         Call::CloseDispute(call) => added(close(alloc, store, PLATFORM, call, batch)),
+        Call::Retrieve(call) => {
+            added(retrieve(alloc, store, call.kind, call.id.as_slice(), batch))
+        }
         Call::GetBalance(_) => balance(alloc, store),
-        Call::GetTxn(call) => added(retrieve(alloc, store, Kind::Txn, call.id.as_slice(), batch)),
         Call::SetClock(call) => set_clock(alloc, store.time(), call.now),
         Call::Authenticate(call) => authenticate(alloc, store, call, batch),
     }
@@ -252,7 +242,7 @@ fn read_and_carry(
     ensures { Comes (read_upshot store.now.rows store.now.time (reading_of raw.now) batch.old) result batch.new }
 {
     match read_call(alloc, raw) {
-        Ok(call) => carry(alloc, store, &call, batch),
+        Ok(request) => carry(alloc, store, &request.call, batch),
         Err(refusal) => rejected(refusal),
     }
 }

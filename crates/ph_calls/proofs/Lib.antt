@@ -1,2 +1,4 @@
 pub mod LeafLemmas
 pub mod FitLemmas
+pub mod ErrorLemmas
+mod RefusalLemmas

@@ -11,39 +11,31 @@ use Rattle.ph_items.specs.Weights.{AreUtf8}
 abbrev pub kept_texts : Call → List (List ℕ)
 kept_texts (call.CreateIntent c) =
     with_text (method_text c.payment_method) (with_text c.description (with_text c.transfer_group (named_texts c.metadata)))
-kept_texts (call.GetIntent c) = []
 kept_texts (call.UpdateIntent c) =
     with_text (method_text c.payment_method) (with_text c.description (with_text c.transfer_group (named_texts c.metadata)))
 kept_texts (call.ConfirmIntent c) = with_text (method_text c.payment_method) []
 kept_texts (call.CaptureIntent c) = []
 kept_texts (call.CancelIntent c) = []
-kept_texts (call.GetCharge c) = []
 kept_texts (call.CreateRefund c) = named_texts c.metadata
-kept_texts (call.GetRefund c) = []
-kept_texts (call.GetDispute c) = []
 kept_texts (call.SendEvidence c) = c.uncategorized_text ∷ []
 kept_texts (call.CloseDispute c) = []
+kept_texts (call.Retrieve c) = []
 kept_texts (call.GetBalance c) = []
-kept_texts (call.GetTxn c) = []
 kept_texts (call.SetClock c) = []
 kept_texts (call.Authenticate c) = []
 
 -- a clock is set to a time that a clock shows
 abbrev pub IsShown : Call → Type 0
 IsShown (call.CreateIntent c) = Unit {0}
-IsShown (call.GetIntent c) = Unit {0}
 IsShown (call.UpdateIntent c) = Unit {0}
 IsShown (call.ConfirmIntent c) = Unit {0}
 IsShown (call.CaptureIntent c) = Unit {0}
 IsShown (call.CancelIntent c) = Unit {0}
-IsShown (call.GetCharge c) = Unit {0}
 IsShown (call.CreateRefund c) = Unit {0}
-IsShown (call.GetRefund c) = Unit {0}
-IsShown (call.GetDispute c) = Unit {0}
 IsShown (call.SendEvidence c) = Unit {0}
 IsShown (call.CloseDispute c) = Unit {0}
+IsShown (call.Retrieve c) = Unit {0}
 IsShown (call.GetBalance c) = Unit {0}
-IsShown (call.GetTxn c) = Unit {0}
 IsShown (call.SetClock c) = c.now ≤ clock_limit
 IsShown (call.Authenticate c) = Unit {0}
 

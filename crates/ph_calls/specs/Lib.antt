@@ -1,6 +1,7 @@
+pub mod Check
+pub mod Parameters
 pub mod Table
 pub mod Routes
-pub mod Check
 pub mod Intents
 pub mod Refunds
 pub mod Disputes

@@ -1,24 +1,16 @@
--- The create of a refund, from a form that the table has let pass.
+-- The create of a refund.
 use Rattle.std.specs.Prelude.{ℕ, ◌==◌, ◌&&◌, ◌||◌, not, Bool, false, is_none, is_some, List, [], ◌∷◌, Option, Some, None, codes}
 use Rattle.ph_errors.specs.declared.api_error.ApiError.{ApiError}
 use Rattle.ph_errors.specs.Table.{InvalidValue, ParameterMissing, error_of}
-use Rattle.ph_form.specs.declared.leaf.Leaf.{Leaf}
-use Rattle.ph_form.specs.Readers.{text_at}
-use Rattle.ph_kinds.specs.Numbers.{amount_in}
-use Rattle.ph_kinds.specs.Words.{refund_reason_in}
-use Rattle.ph_kinds.specs.Values.{metadata_at, value_at}
+use Rattle.ph_items.specs.declared.refunds.RefundReason.{RefundReason}
+use Rattle.ph_kinds.specs.declared.metadata.Meta.{Meta}
 use Rattle.ph_calls.specs.Check.{first_that_holds}
 use Rattle.ph_calls.specs.declared.call.CreateRefund.{CreateRefund}
 
 -- the refund
-abbrev pub create_refund : List Leaf → CreateRefund
-create_refund leaves = record {
-  charge = text_at (codes "charge") leaves;
-  payment_intent = text_at (codes "payment_intent") leaves;
-  amount = value_at amount_in (codes "amount") leaves;
-  reason = value_at refund_reason_in (codes "reason") leaves;
-  metadata = metadata_at (codes "metadata") leaves;
-}
+abbrev pub create_refund : Option (List ℕ) → Option (List ℕ) → Option ℕ → Option RefundReason → Option Meta → CreateRefund
+create_refund charge payment_intent amount reason metadata =
+    record { charge = charge; payment_intent = payment_intent; amount = amount; reason = reason; metadata = metadata }
 
 -- exactly one of a charge and a payment intent is named
 abbrev pub names_one : CreateRefund → Bool

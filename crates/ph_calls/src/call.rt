@@ -1,6 +1,6 @@
 //! The calls, each with what its request says.
 
-use ph_base::Bytes;
+use ph_base::{Bytes, Kind};
 use ph_items::{CancellationReason, CaptureMethod, PaymentMethod, RefundReason};
 use ph_kinds::{Authentication, Meta};
 use ph_money::{Amount, Currency};
@@ -20,13 +20,6 @@ pub struct CreateIntent {
     pub metadata: Option<Meta>,
     /// At most 255 characters.
     pub transfer_group: Option<Bytes>,
-}
-
-/// `GET /v1/payment_intents/{id}`
-#[derive(Drop)]
-pub struct GetIntent {
-    /// The segment of the path, which is read as an id when the call is carried out.
-    pub id: Bytes,
 }
 
 /// `POST /v1/payment_intents/{id}`: what it doesn't name stays.
@@ -71,13 +64,6 @@ pub struct CancelIntent {
     pub cancellation_reason: Option<CancellationReason>,
 }
 
-/// `GET /v1/charges/{id}`
-#[derive(Drop)]
-pub struct GetCharge {
-    /// The segment of the path, which is read as an id when the call is carried out.
-    pub id: Bytes,
-}
-
 /// `POST /v1/refunds`, of a charge or of the latest charge of a payment intent: exactly one of the two is named.
 #[derive(Drop)]
 pub struct CreateRefund {
@@ -89,20 +75,6 @@ pub struct CreateRefund {
     pub amount: Option<Amount>,
     pub reason: Option<RefundReason>,
     pub metadata: Option<Meta>,
-}
-
-/// `GET /v1/refunds/{id}`
-#[derive(Drop)]
-pub struct GetRefund {
-    /// The segment of the path, which is read as an id when the call is carried out.
-    pub id: Bytes,
-}
-
-/// `GET /v1/disputes/{id}`
-#[derive(Drop)]
-pub struct GetDispute {
-    /// The segment of the path, which is read as an id when the call is carried out.
-    pub id: Bytes,
 }
 
 /// `POST /v1/disputes/{id}`: evidence against a dispute.
@@ -121,16 +93,17 @@ pub struct CloseDispute {
     pub id: Bytes,
 }
 
-/// `GET /v1/balance`
+/// `GET` of an object, as `/v1/charges/{id}`: it is shown.
 #[derive(Drop)]
-pub struct GetBalance {}
-
-/// `GET /v1/balance_transactions/{id}`
-#[derive(Drop)]
-pub struct GetTxn {
+pub struct Retrieve {
+    pub kind: Kind,
     /// The segment of the path, which is read as an id when the call is carried out.
     pub id: Bytes,
 }
+
+/// `GET /v1/balance`
+#[derive(Drop)]
+pub struct GetBalance {}
 
 /// `POST /_host/clock`: payhost's own, which sets the time.
 #[derive(Drop)]
@@ -147,23 +120,19 @@ pub struct Authenticate {
     pub outcome: Authentication,
 }
 
-/// A call of the API: one variant for each row of the table of calls.
+/// A call of the API: one variant for each name that the rows of the table of calls have.
 #[derive(Drop)]
 pub enum Call {
     CreateIntent(CreateIntent),
-    GetIntent(GetIntent),
     UpdateIntent(UpdateIntent),
     ConfirmIntent(ConfirmIntent),
     CaptureIntent(CaptureIntent),
     CancelIntent(CancelIntent),
-    GetCharge(GetCharge),
     CreateRefund(CreateRefund),
-    GetRefund(GetRefund),
-    GetDispute(GetDispute),
     SendEvidence(SendEvidence),
     CloseDispute(CloseDispute),
+    Retrieve(Retrieve),
     GetBalance(GetBalance),
-    GetTxn(GetTxn),
     SetClock(SetClock),
     Authenticate(Authenticate),
 }

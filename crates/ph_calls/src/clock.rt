@@ -1,22 +1,28 @@
-//! The setting of the clock, from the form of a request that the table has let pass.
-ghost use Rattle.std.specs.Prelude.{◌≡◌, IfOk};
+//! The setting of the clock.
+ghost use Rattle.std.specs.Prelude.{◌≡◌, IfErr, IfOk, Ok};
+ghost use Rattle.ph_calls.specs.Check.{Refuses};
 ghost use Rattle.ph_calls.specs.Clock.{set_clock, set_clock_error};
+ghost use Rattle.ph_calls.specs.Parameters.{given};
+ghost use Rattle.ph_calls.specs.Table.{params_of};
 
 use crate::call::SetClock;
+use crate::params::{number, required};
+use crate::row::Name;
 use ph_base::NoMemory;
-use ph_errors::ApiError;
+use ph_errors::{ApiError, Refusal};
 use ph_form::Form;
 use ph_items::CLOCK_LIMIT;
-use ph_kinds::number_at;
 use std::alloc::Global;
 
 /// The setting of the clock of a form.
-pub fn set_clock(form: &Form) -> SetClock
-    ensures { result ≡ set_clock form.now }
+#[tactic(auto, unfolding(crate::specs::Parameters::given))]
+pub fn set_clock(alloc: Global, form: &Form) -> Result<SetClock, Refusal>
+    ensures call { IfOk result (λ call. given (params_of Name.SetClock) set_clock form.now ≡ Ok call) }
+    ensures refusal { IfErr result (Refuses (given (params_of Name.SetClock) set_clock form.now)) }
 {
-    SetClock {
-        now: number_at(form, b"now").unwrap_or(0),
-    }
+    Ok(SetClock {
+        now: required(alloc, b"now", number(alloc, form, b"now")?)?,
+    })
 }
 
 /// The error of a time that no clock shows.

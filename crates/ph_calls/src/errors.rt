@@ -1,7 +1,7 @@
 //! The errors of a request that is no call.
 ghost use Rattle.std.specs.Prelude.{◌≡◌, ◌≢◌, IfOk, OnOk};
 ghost use Rattle.ph_errors.specs.Table.{error_of};
-ghost use Rattle.ph_calls.specs.Check.{flaw_error};
+ghost use Rattle.ph_calls.specs.Parameters.{flaw_error};
 ghost use Rattle.ph_calls.specs.Reading.{fault_of};
 
 use ph_base::NoMemory;
@@ -19,6 +19,7 @@ pub fn flaw_error(alloc: Global, flaw: Flaw, param: &[u8]) -> Result<ApiError, N
         Flaw::AmountTooLarge => ApiError::amount_too_large(alloc, param),
         Flaw::InvalidValue => ApiError::invalid_value(alloc, param),
         Flaw::NoSuchPaymentMethod => ApiError::no_such_payment_method(alloc, param),
+        Flaw::NoMemory => Err(NoMemory),
     }
 }
 

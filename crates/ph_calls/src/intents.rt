@@ -1,33 +1,38 @@
-//! The calls on payment intents, each from an id and the form of a request that the table has let pass.
-ghost use Rattle.std.specs.Prelude.{◌≡◌, IfOk};
+//! The calls on payment intents, each of an id and a form.
+ghost use Rattle.std.specs.Prelude.{◌≡◌, IfErr, IfOk, Ok};
+ghost use Rattle.ph_calls.specs.Check.{Refuses};
 ghost use Rattle.ph_calls.specs.Intents.{authenticate_intent, cancel_intent, capture_intent, confirm_intent, create_intent, create_intent_error, update_intent};
+ghost use Rattle.ph_calls.specs.Parameters.{given};
+ghost use Rattle.ph_calls.specs.Table.{params_of};
 
 use crate::call::{
     Authenticate, CancelIntent, CaptureIntent, ConfirmIntent, CreateIntent, UpdateIntent,
 };
-use ph_base::{Bytes, NoMemory};
-use ph_errors::ApiError;
-use ph_form::Form;
-use ph_kinds::{
-    Authentication, amount_at, authentication_at, cancellation_reason_at, capture_method_at,
-    currency_at, metadata_at, payment_method_at, text_at, truth_at,
+use crate::params::{
+    amount, authentication, cancellation_reason, capture_method, currency, metadata, method,
+    required, text, truth,
 };
-use ph_money::{Amount, Currency};
+use crate::row::Name;
+use ph_base::{Bytes, NoMemory};
+use ph_errors::{ApiError, Refusal};
+use ph_form::Form;
 use std::alloc::Global;
 
-/// The create of a form.
-pub fn create_intent(alloc: Global, form: &Form) -> Result<CreateIntent, NoMemory>
-    ensures { IfOk result (λ call. call ≡ create_intent form.now) }
+/// The create of a form; it isn't confirmed where nothing is said of that.
+#[tactic(auto, unfolding(crate::specs::Parameters::given))]
+pub fn create_intent(alloc: Global, form: &Form) -> Result<CreateIntent, Refusal>
+    ensures call { IfOk result (λ call. given (params_of Name.CreateIntent) create_intent form.now ≡ Ok call) }
+    ensures refusal { IfErr result (Refuses (given (params_of Name.CreateIntent) create_intent form.now)) }
 {
     Ok(CreateIntent {
-        amount: amount_at(form, b"amount").unwrap_or(Amount::new(0)),
-        currency: currency_at(form, b"currency").unwrap_or(Currency::Usd),
-        payment_method: payment_method_at(alloc, form, b"payment_method")?,
-        confirm: truth_at(form, b"confirm"),
-        capture_method: capture_method_at(form, b"capture_method"),
-        description: text_at(alloc, form, b"description")?,
-        metadata: metadata_at(alloc, form, b"metadata")?,
-        transfer_group: text_at(alloc, form, b"transfer_group")?,
+        amount: required(alloc, b"amount", amount(alloc, form, b"amount")?)?,
+        currency: required(alloc, b"currency", currency(alloc, form, b"currency")?)?,
+        payment_method: method(alloc, form, b"payment_method")?,
+        confirm: truth(alloc, form, b"confirm")?.unwrap_or(false),
+        capture_method: capture_method(alloc, form, b"capture_method")?,
+        description: text(alloc, form, b"description", 1000)?,
+        metadata: metadata(alloc, form, b"metadata")?,
+        transfer_group: text(alloc, form, b"transfer_group", 255)?,
     })
 }
 
@@ -45,57 +50,67 @@ pub fn create_intent_error(alloc: Global, call: &CreateIntent) -> Result<Option<
     Ok(None)
 }
 
-/// The update of the payment intent with this id.
-pub fn update_intent(alloc: Global, id: &[u8], form: &Form) -> Result<UpdateIntent, NoMemory>
-    ensures { IfOk result (λ call. call ≡ update_intent id.now form.now) }
+/// The update of the payment intent with this id, of a form.
+#[tactic(auto, unfolding(crate::specs::Parameters::given))]
+pub fn update_intent(alloc: Global, id: &[u8], form: &Form) -> Result<UpdateIntent, Refusal>
+    ensures call { IfOk result (λ call. given (params_of Name.UpdateIntent) (update_intent id.now) form.now ≡ Ok call) }
+    ensures refusal { IfErr result (Refuses (given (params_of Name.UpdateIntent) (update_intent id.now) form.now)) }
 {
     Ok(UpdateIntent {
         id: Bytes::from_slice(alloc, id)?,
-        amount: amount_at(form, b"amount"),
-        currency: currency_at(form, b"currency"),
-        payment_method: payment_method_at(alloc, form, b"payment_method")?,
-        description: text_at(alloc, form, b"description")?,
-        metadata: metadata_at(alloc, form, b"metadata")?,
-        transfer_group: text_at(alloc, form, b"transfer_group")?,
+        amount: amount(alloc, form, b"amount")?,
+        currency: currency(alloc, form, b"currency")?,
+        payment_method: method(alloc, form, b"payment_method")?,
+        description: text(alloc, form, b"description", 1000)?,
+        metadata: metadata(alloc, form, b"metadata")?,
+        transfer_group: text(alloc, form, b"transfer_group", 255)?,
     })
 }
 
-/// The confirm of the payment intent with this id.
-pub fn confirm_intent(alloc: Global, id: &[u8], form: &Form) -> Result<ConfirmIntent, NoMemory>
-    ensures { IfOk result (λ call. call ≡ confirm_intent id.now form.now) }
+/// The confirm of the payment intent with this id, of a form.
+#[tactic(auto, unfolding(crate::specs::Parameters::given))]
+pub fn confirm_intent(alloc: Global, id: &[u8], form: &Form) -> Result<ConfirmIntent, Refusal>
+    ensures call { IfOk result (λ call. given (params_of Name.ConfirmIntent) (confirm_intent id.now) form.now ≡ Ok call) }
+    ensures refusal { IfErr result (Refuses (given (params_of Name.ConfirmIntent) (confirm_intent id.now) form.now)) }
 {
     Ok(ConfirmIntent {
         id: Bytes::from_slice(alloc, id)?,
-        payment_method: payment_method_at(alloc, form, b"payment_method")?,
+        payment_method: method(alloc, form, b"payment_method")?,
     })
 }
 
-/// The capture of the payment intent with this id.
-pub fn capture_intent(alloc: Global, id: &[u8], form: &Form) -> Result<CaptureIntent, NoMemory>
-    ensures { IfOk result (λ call. call ≡ capture_intent id.now form.now) }
+/// The capture of the payment intent with this id, of a form.
+#[tactic(auto, unfolding(crate::specs::Parameters::given))]
+pub fn capture_intent(alloc: Global, id: &[u8], form: &Form) -> Result<CaptureIntent, Refusal>
+    ensures call { IfOk result (λ call. given (params_of Name.CaptureIntent) (capture_intent id.now) form.now ≡ Ok call) }
+    ensures refusal { IfErr result (Refuses (given (params_of Name.CaptureIntent) (capture_intent id.now) form.now)) }
 {
     Ok(CaptureIntent {
         id: Bytes::from_slice(alloc, id)?,
-        amount_to_capture: amount_at(form, b"amount_to_capture"),
+        amount_to_capture: amount(alloc, form, b"amount_to_capture")?,
     })
 }
 
-/// The cancel of the payment intent with this id.
-pub fn cancel_intent(alloc: Global, id: &[u8], form: &Form) -> Result<CancelIntent, NoMemory>
-    ensures { IfOk result (λ call. call ≡ cancel_intent id.now form.now) }
+/// The cancel of the payment intent with this id, of a form.
+#[tactic(auto, unfolding(crate::specs::Parameters::given))]
+pub fn cancel_intent(alloc: Global, id: &[u8], form: &Form) -> Result<CancelIntent, Refusal>
+    ensures call { IfOk result (λ call. given (params_of Name.CancelIntent) (cancel_intent id.now) form.now ≡ Ok call) }
+    ensures refusal { IfErr result (Refuses (given (params_of Name.CancelIntent) (cancel_intent id.now) form.now)) }
 {
     Ok(CancelIntent {
         id: Bytes::from_slice(alloc, id)?,
-        cancellation_reason: cancellation_reason_at(form, b"cancellation_reason"),
+        cancellation_reason: cancellation_reason(alloc, form, b"cancellation_reason")?,
     })
 }
 
-/// The authentication for the payment intent with this id.
-pub fn authenticate_intent(alloc: Global, id: &[u8], form: &Form) -> Result<Authenticate, NoMemory>
-    ensures { IfOk result (λ call. call ≡ authenticate_intent id.now form.now) }
+/// The authentication for the payment intent with this id, of a form.
+#[tactic(auto, unfolding(crate::specs::Parameters::given))]
+pub fn authenticate_intent(alloc: Global, id: &[u8], form: &Form) -> Result<Authenticate, Refusal>
+    ensures call { IfOk result (λ call. given (params_of Name.Authenticate) (authenticate_intent id.now) form.now ≡ Ok call) }
+    ensures refusal { IfErr result (Refuses (given (params_of Name.Authenticate) (authenticate_intent id.now) form.now)) }
 {
     Ok(Authenticate {
         id: Bytes::from_slice(alloc, id)?,
-        outcome: authentication_at(form, b"outcome").unwrap_or(Authentication::Failed),
+        outcome: required(alloc, b"outcome", authentication(alloc, form, b"outcome")?)?,
     })
 }

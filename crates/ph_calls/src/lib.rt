@@ -2,12 +2,13 @@
 #![tactic(auto)]
 
 mod call;
-mod check;
 mod clock;
 mod disputes;
 mod errors;
 mod intents;
 mod laws;
+mod names;
+mod params;
 mod reading;
 mod refunds;
 mod route;
@@ -16,9 +17,8 @@ mod table;
 
 pub use call::{
     Authenticate, Call, CancelIntent, CaptureIntent, CloseDispute, ConfirmIntent, CreateIntent,
-    CreateRefund, GetBalance, GetCharge, GetDispute, GetIntent, GetRefund, GetTxn, SendEvidence,
-    SetClock, UpdateIntent,
+    CreateRefund, GetBalance, Retrieve, SendEvidence, SetClock, UpdateIntent,
 };
-pub use laws::readings_are_fit;
+pub use laws::{readings_are_fit, readings_are_refused};
 pub use ph_kinds::Authentication;
-pub use reading::read_call;
+pub use reading::{Request, read_call};

@@ -1,25 +1,31 @@
-//! The create of a refund, from the form of a request that the table has let pass.
-ghost use Rattle.std.specs.Prelude.{◌≡◌, IfOk};
+//! The create of a refund.
+ghost use Rattle.std.specs.Prelude.{◌≡◌, IfErr, IfOk, Ok};
+ghost use Rattle.ph_calls.specs.Check.{Refuses};
+ghost use Rattle.ph_calls.specs.Parameters.{given};
 ghost use Rattle.ph_calls.specs.Refunds.{create_refund, create_refund_error, is_zero, names_one};
+ghost use Rattle.ph_calls.specs.Table.{params_of};
 
 use crate::call::CreateRefund;
+use crate::params::{amount, id, metadata, refund_reason};
+use crate::row::Name;
 use ph_base::NoMemory;
-use ph_errors::ApiError;
+use ph_errors::{ApiError, Refusal};
 use ph_form::Form;
-use ph_kinds::{amount_at, metadata_at, refund_reason_at, text_at};
 use ph_money::Amount;
 use std::alloc::Global;
 
 /// The refund of a form.
-pub fn create_refund(alloc: Global, form: &Form) -> Result<CreateRefund, NoMemory>
-    ensures { IfOk result (λ call. call ≡ create_refund form.now) }
+#[tactic(auto, unfolding(crate::specs::Parameters::given))]
+pub fn create_refund(alloc: Global, form: &Form) -> Result<CreateRefund, Refusal>
+    ensures call { IfOk result (λ call. given (params_of Name.CreateRefund) create_refund form.now ≡ Ok call) }
+    ensures refusal { IfErr result (Refuses (given (params_of Name.CreateRefund) create_refund form.now)) }
 {
     Ok(CreateRefund {
-        charge: text_at(alloc, form, b"charge")?,
-        payment_intent: text_at(alloc, form, b"payment_intent")?,
-        amount: amount_at(form, b"amount"),
-        reason: refund_reason_at(form, b"reason"),
-        metadata: metadata_at(alloc, form, b"metadata")?,
+        charge: id(alloc, form, b"charge")?,
+        payment_intent: id(alloc, form, b"payment_intent")?,
+        amount: amount(alloc, form, b"amount")?,
+        reason: refund_reason(alloc, form, b"reason")?,
+        metadata: metadata(alloc, form, b"metadata")?,
     })
 }
 

@@ -1,24 +1,21 @@
 //! Rows of the table of calls.
 
-use ph_kinds::Kind;
+use ph_base::Kind;
 
-/// Which call a row is.
+/// Which call a row is of.
 #[derive(Clone, Copy, Debug, PartialEq, Eq)]
 pub enum Name {
     CreateIntent,
-    GetIntent,
     UpdateIntent,
     ConfirmIntent,
     CaptureIntent,
     CancelIntent,
-    GetCharge,
     CreateRefund,
-    GetRefund,
-    GetDispute,
     SendEvidence,
     CloseDispute,
+    /// It shows the object of this kind whose id stands in the path.
+    Retrieve(Kind),
     GetBalance,
-    GetTxn,
     SetClock,
     Authenticate,
 }
@@ -29,21 +26,9 @@ pub enum Path {
     WithId(&'static [u8], &'static [u8]),
 }
 
-/// A parameter of a call.
-pub struct Param {
-    /// Its printed name, as `transfer_data[destination]`.
-    pub name: &'static [u8],
-    pub kind: Kind,
-    pub required: bool,
-}
-
 /// A row of the table of calls.
 pub struct TableRow {
-    pub call: Name,
     pub method: &'static [u8],
     pub path: Path,
-    /// In the order in which they are checked.
-    pub params: &'static [Param],
-    /// Names that are accepted with anything below them, and have no effect.
-    pub ignored: &'static [&'static [u8]],
+    pub call: Name,
 }

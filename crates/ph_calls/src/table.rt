@@ -1,48 +1,70 @@
 //! The table of calls.
 ghost use Rattle.std.specs.Prelude.{◌≡◌, map};
-ghost use Rattle.ph_calls.specs.Table.{line_of, table};
+ghost use Rattle.ph_calls.specs.Parameters.{name_of};
+ghost use Rattle.ph_calls.specs.Table.{line_of, params_of, table};
 
-use crate::row::{Name, Param, Path, TableRow};
-use ph_kinds::Kind;
+use crate::row::{Name, Path, TableRow};
+use ph_base::Kind;
 
-/// A parameter that has to be there.
-macro_rules! must {
-    ($name:literal, $kind:expr) => {
-        Param {
-            name: $name,
-            kind: $kind,
-            required: true,
+/// A row: a method, a path with an id between two texts or of one text, and the call.
+macro_rules! row {
+    ($method:literal $path:literal => $call:expr) => {
+        TableRow {
+            method: $method,
+            path: Path::Plain($path),
+            call: $call,
         }
     };
-}
-
-/// A parameter that may be left out.
-macro_rules! may {
-    ($name:literal, $kind:expr) => {
-        Param {
-            name: $name,
-            kind: $kind,
-            required: false,
+    ($method:literal $front:literal id $back:literal => $call:expr) => {
+        TableRow {
+            method: $method,
+            path: Path::WithId($front, $back),
+            call: $call,
         }
     };
 }
 
 static TABLE: [TableRow; 16] = [
-    TableRow {
-        call: Name::CreateIntent,
-        method: b"POST",
-        path: Path::Plain(b"/v1/payment_intents"),
-        params: &[
-            must!(b"amount", Kind::Amount),
-            must!(b"currency", Kind::Currency),
-            may!(b"payment_method", Kind::Method),
-            may!(b"confirm", Kind::Truth),
-            may!(b"capture_method", Kind::CaptureMethod),
-            may!(b"description", Kind::Text(1000)),
-            may!(b"metadata", Kind::Metadata),
-            may!(b"transfer_group", Kind::Text(255)),
-        ],
-        ignored: &[
+    row!(b"POST" b"/v1/payment_intents" => Name::CreateIntent),
+    row!(b"GET" b"/v1/payment_intents/" id b"" => Name::Retrieve(Kind::Intent)),
+    row!(b"POST" b"/v1/payment_intents/" id b"" => Name::UpdateIntent),
+    row!(b"POST" b"/v1/payment_intents/" id b"/confirm" => Name::ConfirmIntent),
+    row!(b"POST" b"/v1/payment_intents/" id b"/capture" => Name::CaptureIntent),
+    row!(b"POST" b"/v1/payment_intents/" id b"/cancel" => Name::CancelIntent),
+    row!(b"GET" b"/v1/charges/" id b"" => Name::Retrieve(Kind::Charge)),
+    row!(b"POST" b"/v1/refunds" => Name::CreateRefund),
+    row!(b"GET" b"/v1/refunds/" id b"" => Name::Retrieve(Kind::Refund)),
+    row!(b"GET" b"/v1/disputes/" id b"" => Name::Retrieve(Kind::Dispute)),
+    row!(b"POST" b"/v1/disputes/" id b"" => Name::SendEvidence),
+    row!(b"POST" b"/v1/disputes/" id b"/close" => Name::CloseDispute),
+    row!(b"GET" b"/v1/balance" => Name::GetBalance),
+    row!(b"GET" b"/v1/balance_transactions/" id b"" => Name::Retrieve(Kind::Txn)),
+    row!(b"POST" b"/_host/clock" => Name::SetClock),
+    row!(b"POST" b"/_host/payment_intents/" id b"/authenticate" => Name::Authenticate),
+];
+
+/// The rows of the table.
+#[tactic(auto, unfolding(crate::specs::Table::table))]
+pub fn rows() -> &'static [TableRow]
+    ensures { map line_of result.now ≡ table }
+{
+    &TABLE
+}
+
+/// The names of a call's parameters, and behind them those that it accepts with anything below them and without effect.
+pub fn names_of(call: Name) -> &'static [&'static [u8]]
+    ensures { map (λ name. name.now) result.now ≡ map name_of (params_of call) }
+{
+    match call {
+        Name::CreateIntent => &[
+            b"amount",
+            b"currency",
+            b"payment_method",
+            b"confirm",
+            b"capture_method",
+            b"description",
+            b"metadata",
+            b"transfer_group",
             b"automatic_payment_methods",
             b"payment_method_types",
             b"return_url",
@@ -52,131 +74,32 @@ static TABLE: [TableRow; 16] = [
             b"off_session",
             b"use_stripe_sdk",
         ],
-    },
-    TableRow {
-        call: Name::GetIntent,
-        method: b"GET",
-        path: Path::WithId(b"/v1/payment_intents/", b""),
-        params: &[],
-        ignored: &[],
-    },
-    TableRow {
-        call: Name::UpdateIntent,
-        method: b"POST",
-        path: Path::WithId(b"/v1/payment_intents/", b""),
-        params: &[
-            may!(b"amount", Kind::Amount),
-            may!(b"currency", Kind::Currency),
-            may!(b"payment_method", Kind::Method),
-            may!(b"description", Kind::Text(1000)),
-            may!(b"metadata", Kind::Metadata),
-            may!(b"transfer_group", Kind::Text(255)),
+        Name::UpdateIntent => &[
+            b"amount",
+            b"currency",
+            b"payment_method",
+            b"description",
+            b"metadata",
+            b"transfer_group",
         ],
-        ignored: &[],
-    },
-    TableRow {
-        call: Name::ConfirmIntent,
-        method: b"POST",
-        path: Path::WithId(b"/v1/payment_intents/", b"/confirm"),
-        params: &[may!(b"payment_method", Kind::Method)],
-        ignored: &[b"return_url", b"off_session", b"use_stripe_sdk"],
-    },
-    TableRow {
-        call: Name::CaptureIntent,
-        method: b"POST",
-        path: Path::WithId(b"/v1/payment_intents/", b"/capture"),
-        params: &[may!(b"amount_to_capture", Kind::Amount)],
-        ignored: &[],
-    },
-    TableRow {
-        call: Name::CancelIntent,
-        method: b"POST",
-        path: Path::WithId(b"/v1/payment_intents/", b"/cancel"),
-        params: &[may!(b"cancellation_reason", Kind::CancellationReason)],
-        ignored: &[],
-    },
-    TableRow {
-        call: Name::GetCharge,
-        method: b"GET",
-        path: Path::WithId(b"/v1/charges/", b""),
-        params: &[],
-        ignored: &[],
-    },
-    TableRow {
-        call: Name::CreateRefund,
-        method: b"POST",
-        path: Path::Plain(b"/v1/refunds"),
-        params: &[
-            may!(b"charge", Kind::Id),
-            may!(b"payment_intent", Kind::Id),
-            may!(b"amount", Kind::Amount),
-            may!(b"reason", Kind::RefundReason),
-            may!(b"metadata", Kind::Metadata),
+        Name::ConfirmIntent => &[
+            b"payment_method",
+            b"return_url",
+            b"off_session",
+            b"use_stripe_sdk",
         ],
-        ignored: &[],
-    },
-    TableRow {
-        call: Name::GetRefund,
-        method: b"GET",
-        path: Path::WithId(b"/v1/refunds/", b""),
-        params: &[],
-        ignored: &[],
-    },
-    TableRow {
-        call: Name::GetDispute,
-        method: b"GET",
-        path: Path::WithId(b"/v1/disputes/", b""),
-        params: &[],
-        ignored: &[],
-    },
-    TableRow {
-        call: Name::SendEvidence,
-        method: b"POST",
-        path: Path::WithId(b"/v1/disputes/", b""),
-        params: &[must!(b"evidence[uncategorized_text]", Kind::Text(20000))],
-        ignored: &[b"submit"],
-    },
-    TableRow {
-        call: Name::CloseDispute,
-        method: b"POST",
-        path: Path::WithId(b"/v1/disputes/", b"/close"),
-        params: &[],
-        ignored: &[],
-    },
-    TableRow {
-        call: Name::GetBalance,
-        method: b"GET",
-        path: Path::Plain(b"/v1/balance"),
-        params: &[],
-        ignored: &[],
-    },
-    TableRow {
-        call: Name::GetTxn,
-        method: b"GET",
-        path: Path::WithId(b"/v1/balance_transactions/", b""),
-        params: &[],
-        ignored: &[],
-    },
-    TableRow {
-        call: Name::SetClock,
-        method: b"POST",
-        path: Path::Plain(b"/_host/clock"),
-        params: &[must!(b"now", Kind::Number)],
-        ignored: &[],
-    },
-    TableRow {
-        call: Name::Authenticate,
-        method: b"POST",
-        path: Path::WithId(b"/_host/payment_intents/", b"/authenticate"),
-        params: &[must!(b"outcome", Kind::Authentication)],
-        ignored: &[],
-    },
-];
-
-/// The rows of the table.
-#[tactic(auto, unfolding(crate::specs::Table::table))]
-pub fn rows() -> &'static [TableRow]
-    ensures { map line_of result.now ≡ table }
-{
-    &TABLE
+        Name::CaptureIntent => &[b"amount_to_capture"],
+        Name::CancelIntent => &[b"cancellation_reason"],
+        Name::CreateRefund => &[
+            b"charge",
+            b"payment_intent",
+            b"amount",
+            b"reason",
+            b"metadata",
+        ],
+        Name::SendEvidence => &[b"evidence[uncategorized_text]", b"submit"],
+        Name::SetClock => &[b"now"],
+        Name::Authenticate => &[b"outcome"],
+        Name::CloseDispute | Name::Retrieve(_) | Name::GetBalance => &[],
+    }
 }

@@ -2,6 +2,7 @@ pub mod EntryLemmas
 pub mod FreeLaw
 pub mod FreeLemmas
 pub mod IndexLemmas
+pub mod KeyLaw
 pub mod MapLemmas
 pub mod OrderLaw
 pub mod OrderLemmas

@@ -1,6 +1,6 @@
 -- The names of a form, a base and keys in brackets as in `base[key][key]`, and which name lies below which.
-use Rattle.std.specs.Prelude.{ℕ, ◌==◌, ◌&&◌, ◌||◌, Bool, true, false, if◌then◌else◌, List, [], ◌∷◌, ◌++◌, take, drop, Option, Some, None, bytes_eq}
-use Rattle.std.specs.List.{position_or_len}
+use Rattle.std.specs.Prelude.{◌≡◌, ℕ, ◌==◌, ◌&&◌, ◌||◌, Bool, true, false, if◌then◌else◌, List, [], ◌∷◌, ◌++◌, take, drop, Option, Some, None, bytes_eq}
+use Rattle.std.specs.List.{list_any, position_or_len}
 
 -- `[` or `]`
 abbrev pub is_bracket : ℕ → Bool
@@ -26,6 +26,19 @@ tail_of name = drop (position_or_len is_bracket name) name
 -- the keys of a name, each without brackets; none where what follows the base isn't a row of keys in brackets
 abbrev pub keys_of : List ℕ → Option (List (List ℕ))
 keys_of name = keys_from [] false [] (tail_of name)
+
+-- the text is these keys, each in brackets, one after another
+abbrev pub in_brackets : List (List ℕ) → List ℕ
+in_brackets [] = []
+in_brackets (key ∷ keys) = 91 ∷ (key ++ (93 ∷ in_brackets keys))
+
+-- a key has a bracket
+abbrev pub has_bracket : List ℕ → Bool
+has_bracket key = list_any is_bracket key
+
+-- the keys of a tail are these: it is these keys in brackets, and none has a bracket
+abbrev pub AreKeys : List (List ℕ) → List ℕ → Type 0
+AreKeys keys tail = (tail ≡ in_brackets keys) × (list_any has_bracket keys ≡ false)
 
 -- the name of a key below a beginning, as `beginning[key]`
 abbrev pub child : List ℕ → List ℕ → List ℕ

@@ -15,11 +15,15 @@ text_at name leaves = option_map (λ leaf. leaf.text) (find (λ leaf. bytes_eq l
 abbrev pub below : List ℕ → List Leaf → List Leaf
 below name leaves = filter (λ leaf. is_below name leaf.name) leaves
 
+-- a leaf lies below a name
+abbrev pub has_below : List ℕ → List Leaf → Bool
+has_below name leaves = list_any (λ leaf. is_below name leaf.name) leaves
+
 -- what stands at a name: its text, a map of what lies below it, or nothing
 abbrev pub node_at : List ℕ → List Leaf → Node
 node_at name leaves =
     if list_any (λ leaf. bytes_eq leaf.name name) leaves then Text
-    else (if list_any (λ leaf. is_below name leaf.name) leaves then Map else Absent)
+    else (if has_below name leaves then Map else Absent)
 
 -- what follows a name and its `[` in a longer one
 abbrev pub rest_after : List ℕ → List ℕ → List ℕ

@@ -1,9 +1,8 @@
 //! A form that was read.
 ghost use Rattle.std.specs.Prelude.{◌≡◌, ◌↔◌, IfSome, IsTrue, IsUtf8, bytes_eq, option_copied, List};
 ghost use Rattle.std.specs.List.{list_any};
-ghost use Rattle.ph_form.specs.Names.{is_below};
 ghost use Rattle.ph_form.specs.Order.{IsWhole};
-ghost use Rattle.ph_form.specs.Readers.{node_at, text_at};
+ghost use Rattle.ph_form.specs.Readers.{has_below, node_at, text_at};
 ghost use Rattle.ph_form.specs.declared.leaf.Leaf.{Leaf as OneLeaf};
 
 use crate::leaf::{Leaf, are_same};
@@ -51,13 +50,20 @@ impl Form {
         text_in(self.leaves(), name)
     }
 
+    /// Whether something lies below a name: a map stands there.
+    pub fn has_below(&self, name: &[u8]) -> bool
+        ensures { result ≡ has_below name.now self.now }
+    {
+        has_below(self.leaves(), name)
+    }
+
     /// What stands at a name.
     pub fn node(&self, name: &[u8]) -> Node
         ensures { result ≡ node_at name.now self.now }
     {
         if has_text(self.leaves(), name) {
             Node::Text
-        } else if has_below(self.leaves(), name) {
+        } else if self.has_below(name) {
             Node::Map
         } else {
             Node::Absent
@@ -97,7 +103,7 @@ fn has_text(leaves: &[Leaf], name: &[u8]) -> bool
 }
 
 fn has_below(leaves: &[Leaf], name: &[u8]) -> bool
-    ensures { result ≡ list_any (λ leaf. is_below name.now leaf.name) leaves.now }
+    ensures { result ≡ has_below name.now leaves.now }
 {
     for leaf in leaves {
         if is_below(name, leaf.name.as_slice()) {

@@ -15,7 +15,7 @@ mod reading;
 
 pub use fault::FormFault;
 pub use form::Form;
-pub use laws::least_number_is_free;
+pub use laws::{keys_stand_in_brackets, least_number_is_free};
 pub use leaf::Leaf;
 pub use names::{is_below, is_within};
 pub use node::Node;

@@ -4,5 +4,6 @@ pub mod Methods
 pub mod Metadata
 pub mod Kept
 pub mod Events
+pub mod Kind
 pub mod Kinds
 pub mod Values

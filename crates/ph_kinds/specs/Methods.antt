@@ -1,9 +1,10 @@
 -- The test payment methods, by their names.
-use Rattle.std.specs.Prelude.{ℕ, ◌==◌, ◌&&◌, nat_le, if◌then◌else◌, List, [], ◌∷◌, length, take, drop, Option, Some, None, option_map, option_and_then, Result, ok_or, find, codes, bytes_eq}
+use Rattle.std.specs.Prelude.{ℕ, ◌==◌, ◌&&◌, nat_le, if◌then◌else◌, List, [], ◌∷◌, length, take, drop, Option, Some, None, option_map, option_and_then, Result, Ok, Err, ok_or, find, codes, bytes_eq}
 use Rattle.std.specs.Option.{option_or}
 use Rattle.ph_base.specs.declared.acquirer.Method.{Method}
 use Rattle.ph_base.specs.declared.acquirer.Method.TheVariants.{Visa, Declined, NoFunds, Challenge, Dispute, Bypass, Slow, Lost}
 use Rattle.ph_base.specs.Numbers.{number_in}
+use Rattle.ph_items.specs.declared.payment_methods.PaymentMethod.{PaymentMethod}
 use Rattle.ph_kinds.specs.declared.flaw.Flaw.{Flaw}
 use Rattle.ph_kinds.specs.declared.flaw.Flaw.TheVariants.{NoSuchPaymentMethod}
 use Rattle.ph_kinds.specs.declared.methods.NamedMethod.{NamedMethod}
@@ -54,3 +55,12 @@ slow_method text = option_and_then slow_in (rest_after (codes "pm_payhost_slow_"
 -- a payment method: one of the names
 abbrev pub method_in : List ℕ → Result Method Flaw
 method_in text = ok_or (option_or (named_method text) (slow_method text)) NoSuchPaymentMethod
+
+-- a payment method with the text that named it
+abbrev pub named_by : List ℕ → Result Method Flaw → Result PaymentMethod Flaw
+named_by text (Err flaw) = Err flaw
+named_by text (Ok method) = Ok (record { text = text; method = method })
+
+-- the payment method of a text
+abbrev pub payment_method_in : List ℕ → Result PaymentMethod Flaw
+payment_method_in text = named_by text (method_in text)

@@ -1,49 +1,28 @@
 -- The values that a form gives under a name.
-use Rattle.std.specs.Prelude.{ℕ, Bool, false, List, [], ◌∷◌, Option, Some, None, unwrap_or, option_and_then, Result, Ok, Err}
-use Rattle.std.specs.Result.{result_ok}
-use Rattle.ph_base.specs.declared.acquirer.Method.{Method}
+use Rattle.std.specs.Prelude.{ℕ, Bool, true, false, List, Option, Some, None, Result, Ok, Err}
 use Rattle.ph_form.specs.declared.leaf.Leaf.{Leaf}
-use Rattle.ph_form.specs.Readers.{text_at, entries_at}
+use Rattle.ph_form.specs.Readers.{entries_at, has_below, text_at}
 use Rattle.ph_kinds.specs.declared.flaw.Flaw.{Flaw}
-use Rattle.ph_kinds.specs.declared.metadata.Meta.{Meta}
-use Rattle.ph_items.specs.declared.payment_methods.PaymentMethod.{PaymentMethod}
-use Rattle.ph_kinds.specs.Events.{events_in}
-use Rattle.ph_kinds.specs.Metadata.{cleared_in, metadata_in}
-use Rattle.ph_kinds.specs.Methods.{method_in}
-use Rattle.ph_kinds.specs.Words.{truth_in}
+use Rattle.ph_kinds.specs.Kind.{Kind}
+use Rattle.ph_kinds.specs.Kinds.{Value, map_value, text_value}
 
--- the value of the text under a name, where there is one that the kind takes
-abbrev pub value_at : {X : Type 0} → (List ℕ → Result X Flaw) → List ℕ → List Leaf → Option X
-value_at read name leaves = option_and_then (λ text. result_ok (read text)) (text_at name leaves)
+-- the text there, none where nothing is there, or this flaw where a map is
+abbrev pub only_text : Flaw → Option (List ℕ) → Bool → Result (Option (List ℕ)) Flaw
+only_text flaw (Some text) below = Ok (Some text)
+only_text flaw None true = Err flaw
+only_text flaw None false = Ok None
 
--- the truth value under a name, false where there is none
-abbrev pub truth_at : List ℕ → List Leaf → Bool
-truth_at name leaves = unwrap_or (value_at truth_in name leaves) false
+-- a value that is there
+abbrev pub there : {X : Type 0} → Result X Flaw → Result (Option X) Flaw
+there (Ok value) = Ok (Some value)
+there (Err flaw) = Err flaw
 
--- a payment method with the text that named it
-abbrev pub named_by : List ℕ → Result Method Flaw → Result PaymentMethod Flaw
-named_by text (Err flaw) = Err flaw
-named_by text (Ok method) = Ok (record { text = text; method = method })
+-- the value of a kind where this text stands, or else a map of these entries, where one does
+abbrev pub value_by : (k : Kind) → Option (List ℕ) → Bool → Option (List Leaf) → Result (Option (Value k)) Flaw
+value_by k (Some text) below entries = there (text_value k text)
+value_by k None true entries = there (map_value k entries)
+value_by k None false entries = Ok None
 
--- the payment method of a text
-abbrev pub payment_method_in : List ℕ → Result PaymentMethod Flaw
-payment_method_in text = named_by text (method_in text)
-
--- the payment method under a name
-abbrev pub payment_method_at : List ℕ → List Leaf → Option PaymentMethod
-payment_method_at name leaves = value_at payment_method_in name leaves
-
--- what a text, or else a map of these entries, says of metadata
-abbrev pub metadata_by : Option (List ℕ) → Option (List Leaf) → Option Meta
-metadata_by (Some text) entries = result_ok (cleared_in text)
-metadata_by None None = None
-metadata_by None (Some []) = None
-metadata_by None (Some (entry ∷ entries)) = result_ok (metadata_in (Some (entry ∷ entries)))
-
--- what a form says of metadata under a name
-abbrev pub metadata_at : List ℕ → List Leaf → Option Meta
-metadata_at name leaves = metadata_by (text_at name leaves) (entries_at name leaves)
-
--- the list of event types under a name
-abbrev pub events_at : List ℕ → List Leaf → Option (List (List ℕ))
-events_at name leaves = result_ok (events_in (entries_at name leaves))
+-- the value of a kind under a name, none where nothing stands there, or the flaw of what does
+abbrev pub value_at : (k : Kind) → List ℕ → List Leaf → Result (Option (Value k)) Flaw
+value_at k name leaves = value_by k (text_at name leaves) (has_below name leaves) (entries_at name leaves)

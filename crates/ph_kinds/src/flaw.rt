@@ -1,4 +1,7 @@
 //! Why a value isn't of a kind.
+ghost use Rattle.std.specs.Prelude.{◌≡◌};
+
+use ph_base::NoMemory;
 
 /// Why a value isn't of a parameter's kind.
 #[derive(Clone, Copy, Debug, PartialEq, Eq)]
@@ -11,4 +14,18 @@ pub enum Flaw {
     InvalidValue,
     /// A text that names no payment method.
     NoSuchPaymentMethod,
+    /// There was no memory to read it.
+    NoMemory,
+}
+
+impl From<NoMemory> for Flaw {
+    ghost use Rattle.ph_kinds.specs.declared.flaw.Flaw.{Flaw};
+    ghost use Rattle.ph_kinds.specs.declared.flaw.Flaw.TheVariants.{NoMemory as OutOfMemory};
+
+    ghost from_gives = { λ e f. f ≡ OutOfMemory };
+
+    fn from(error: NoMemory) -> Self {
+        let NoMemory = error;
+        Flaw::NoMemory
+    }
 }

@@ -7,8 +7,6 @@ mod events;
 mod flaw;
 mod form_values;
 mod kept;
-mod kind;
-mod kinds;
 mod lists;
 mod metadata;
 mod methods;
@@ -20,12 +18,10 @@ pub use characters::character_count;
 pub use flaw::Flaw;
 pub use form_values::{
     address_at, amount_at, authentication_at, cancellation_reason_at, capture_method_at,
-    currency_at, events_at, metadata_at, number_at, payment_method_at, refund_reason_at, text_at,
-    truth_at,
+    currency_at, events_at, id_at, metadata_at, number_at, payment_method_at, refund_reason_at,
+    text_at, truth_at,
 };
 pub use kept::first_metadata;
-pub use kind::Kind;
-pub use kinds::{map_flaw, text_flaw};
 pub use lists::{Pairs, Texts};
 pub use metadata::Meta;
 pub use methods::read_method;

@@ -64,7 +64,7 @@ fn request(alloc: Global, path: &str, body: &str) -> Result<Raw, NoMemory> {
 pub fn call_of(alloc: Global, path: &str, body: &str) -> Result<Call, NoMemory> {
     let raw = request(alloc, path, body)?;
     match read_call(alloc, &raw) {
-        Ok(call) => Ok(call),
+        Ok(request) => Ok(request.call),
         Err(_) => Err(NoMemory),
     }
 }
