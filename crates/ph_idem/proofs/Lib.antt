@@ -1,0 +1,4 @@
+pub mod ShapeLemmas
+pub mod OpenLemmas
+pub mod FoundLemmas
+pub mod KeptLemmas
