@@ -12,3 +12,4 @@ pub mod CalledLemmas
 pub mod CallerLemmas
 pub mod LookLemmas
 pub mod OwnRunLemmas
+pub mod RunLemmas

@@ -6,7 +6,7 @@ ghost use Rattle.ph_conn.specs.Parts.{GivenUp};
 use ph_attempts::Ticket;
 use ph_bank::{Acquirer, Driven, Patience, drive};
 use ph_base::{Ruling, Why};
-use ph_book::{Act, Answer, Book, Refused};
+use ph_book::{Act, Answer, Book, Refused, runs_follow};
 use ph_http::{Raw, Reply};
 
 /// What became of a request.
@@ -58,9 +58,11 @@ pub fn answer<A: Acquirer, P: Patience>(
 }
 
 // Enters a call.
+#[tactic(auto, using(crate::proofs::LiveLemmas::live_answered, crate::proofs::LiveLemmas::live_begun))]
 fn call(book: &mut Book, raw: Raw) -> Called
     ensures { Calls book.old book.new raw result }
 {
+    runs_follow(book.setup(), book.history());
     match book.apply(0, Act::Call(raw)) {
         Ok(Answer::Reply(reply)) => {
             let _ = book.history();
@@ -97,10 +99,12 @@ fn settle(book: &mut Book, ticket: Ticket, driven: Driven) -> Outcome
 }
 
 // Enters a ruling on the order of a ticket's run. Where there is no memory, the ticket comes back.
+#[tactic(auto, using(crate::proofs::LiveLemmas::live_ended))]
 fn finish(book: &mut Book, ticket: Ticket, ruling: Ruling) -> Result<Reply, Ticket>
     requires own { Holds book.old.setup book.old.history 0 ticket }
     ensures { Finishes book.old book.new ticket ruling result }
 {
+    runs_follow(book.setup(), book.history());
     match book.apply(0, Act::Finish(ticket, ruling)) {
         Ok(answer) => {
             let Answer::Reply(reply) = answer else {
@@ -119,10 +123,12 @@ fn finish(book: &mut Book, ticket: Ticket, ruling: Ruling) -> Result<Reply, Tick
 }
 
 // Gives up the run of a ticket. A book never refuses that.
+#[tactic(auto, using(crate::proofs::LiveLemmas::live_ended))]
 fn park(book: &mut Book, ticket: Ticket, why: Why) -> Reply
     requires own { Holds book.old.setup book.old.history 0 ticket }
     ensures { Ended book.old book.new ticket (GivenUp why) result }
 {
+    runs_follow(book.setup(), book.history());
     let entered = book.apply(0, Act::Park(ticket, why));
     let Ok(answer) = entered else { unreachable!() };
     let Answer::Reply(reply) = answer else {
