@@ -109,6 +109,7 @@ abbrev pub ended_in : Deed → Option ℕ
 ended_in (deed.Call raw) = None
 ended_in (deed.Finish run ruling) = Some run
 ended_in (deed.Park run why) = Some run
+ended_in deed.Resume = None
 ended_in (deed.Tick moment) = None
 
 -- the live runs after one entry more

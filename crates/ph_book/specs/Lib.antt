@@ -1,6 +1,7 @@
 pub mod Entries
 pub mod Replies
 pub mod Answers
+pub mod Keys
 pub mod Calls
 pub mod Runs
 pub mod History

@@ -16,8 +16,8 @@ ghost use Rattle.ph_book.specs.Legal.{is_full, IsLegal};
 ghost use Rattle.ph_book.specs.Tickets.{HandsOut, Holds, SpendsOwn};
 
 use crate::acts::{Act, Answer, Deed, Entry, Query};
-use crate::calls::{Called, called_by};
-use crate::endings::{Ending, parked_row, settled};
+use crate::calls::{Called, Opening, called_by};
+use crate::endings::{Ending, Saving, parked_row, resumed_row, settled};
 use crate::room::{later, one_less, push_row, take_room};
 use crate::setup::{Setup, few_entries};
 use crate::spares::{Spare, add_spare, take_spare};
@@ -26,6 +26,7 @@ use crate::weights::{self, row_weight};
 use ph_attempts::{Attempts, Ticket};
 use ph_base::{Kind, NoMemory, Ruling, Why};
 use ph_http::{Raw, Reply};
+use ph_idem::{Asked, Records, Saved};
 use ph_items::{Account, AccountType, Item, Metadata, Order, PLATFORM};
 use ph_lock::Refused;
 use ph_money::Currency;
@@ -42,6 +43,7 @@ pub struct Book {
     store: Store,
     weight: u64,
     attempts: Attempts,
+    records: Records,
     // the number of live runs
     live: usize,
     // one for each live run
@@ -56,7 +58,7 @@ impl Model for Book {
 
     ghost view = { λ b. record { setup = b.setup; history = b.entries.items } };
 
-    ghost invariant = { λ b. IsBook b.setup b.entries.items b.store.rows b.store.time b.weight b.attempts b.live
+    ghost invariant = { λ b. IsBook b.setup b.entries.items b.store.rows b.store.time b.weight b.attempts b.records b.live
         × HasRoom b.live (length b.entries.items) (vec_capacity b.entries) b.store.room (length b.spares.items) b.weight };
 }
 
@@ -94,6 +96,7 @@ impl Book {
             store,
             weight: 256,
             attempts: Attempts::new(alloc),
+            records: Records::new(alloc),
             live: 0,
             spares: Vec::new(alloc),
         })
@@ -127,6 +130,11 @@ impl Book {
                 Err(ticket) => Err((Act::Finish(ticket, ruling), Refused::NoMemory)),
             },
             Act::Park(ticket, why) => Ok(Answer::Reply(self.park(caller, ticket, why))),
+            Act::Resume => match self.resume(caller) {
+                Ok(Some(ticket)) => Ok(Answer::Wait(ticket)),
+                Ok(None) => Ok(Answer::Done),
+                Err(refused) => Err((Act::Resume, refused)),
+            },
             Act::Tick(moment) => match self.tick(caller, moment) {
                 Ok(()) => Ok(Answer::Done),
                 Err(refused) => Err((Act::Tick(moment), refused)),
@@ -151,7 +159,14 @@ impl Book {
             return Err((raw, Refused::Full));
         }
         let place = self.entries.len() as u64 + 1;
-        match called_by(self.alloc, &self.setup.key, &self.store, place, &raw) {
+        match called_by(
+            self.alloc,
+            &self.setup.key,
+            &self.store,
+            &self.records,
+            place,
+            &raw,
+        ) {
             Ok(called) => match self.enter_called(caller, raw, called) {
                 Ok(answer) => Ok(answer),
                 Err(raw) => Err((raw, Refused::NoMemory)),
@@ -172,11 +187,27 @@ impl Book {
         ensures unchanged { IfErr result (λ back. (back ≡ raw) × (self.new ≡ self.old)) }
     {
         match called {
-            Called::Answered(reply, rows, now) => match self.enter(caller, raw, rows, now) {
+            Called::Answered(reply, rows, now, None) => match self.enter(caller, raw, rows, now) {
                 Ok(()) => Ok(Answer::Reply(reply)),
                 Err(raw) => Err(raw),
             },
-            Called::Waiting(order, rows) => match self.begin(caller, raw, order, rows) {
+            Called::Answered(reply, rows, now, Some(opening)) => {
+                match self.enter_opening(caller, raw, rows, now, opening) {
+                    Ok(()) => Ok(Answer::Reply(reply)),
+                    Err(raw) => Err(raw),
+                }
+            }
+            Called::Waiting(order, rows, None) => match self.begin(caller, raw, order, rows) {
+                Ok(ticket) => Ok(Answer::Wait(ticket)),
+                Err(raw) => Err(raw),
+            },
+            Called::Waiting(order, rows, Some(asked)) => {
+                match self.begin_opening(caller, raw, order, rows, asked) {
+                    Ok(ticket) => Ok(Answer::Wait(ticket)),
+                    Err(raw) => Err(raw),
+                }
+            }
+            Called::Resuming(reference) => match self.resume_by_call(caller, raw, reference) {
                 Ok(ticket) => Ok(Answer::Wait(ticket)),
                 Err(raw) => Err(raw),
             },
@@ -201,6 +232,43 @@ impl Book {
             Ok(()) => {}
             Err(NoMemory) => return Err(raw),
         }
+        self.entries.push_reserved(Entry {
+            caller,
+            deed: Deed::Call(raw),
+        });
+        self.store.append_reserved(rows);
+        self.store.advance(now);
+        self.weight = weight;
+        Ok(())
+    }
+
+    // The same, where the call opens a record, which has the reply at once.
+    fn enter_opening(
+        &mut self,
+        caller: u64,
+        raw: Raw,
+        rows: Vec<Row>,
+        now: u64,
+        opening: Opening,
+    ) -> Result<(), Raw> {
+        let Opening { asked, saved: Saved { status, body } } = opening;
+        let place = self.entries.len() as u64 + 1;
+        let Some(weight) = weights::weight_after_call(self.weight, &raw, rows.as_slice(), self.live)
+        else {
+            return Err(raw);
+        };
+        let Some(weight) = weights::weight_with_body(weight, &body, self.live) else {
+            return Err(raw);
+        };
+        match take_room(&mut self.entries, &mut self.store, rows.len(), self.live) {
+            Ok(()) => {}
+            Err(NoMemory) => return Err(raw),
+        }
+        match self.records.open(asked, place, self.store.time()) {
+            Ok(()) => {}
+            Err(NoMemory) => return Err(raw),
+        }
+        self.records.save(place, status, body);
         self.entries.push_reserved(Entry {
             caller,
             deed: Deed::Call(raw),
@@ -251,6 +319,96 @@ impl Book {
         Ok(ticket)
     }
 
+    // The same, where the call opens a record, to which the attempt is attached.
+    fn begin_opening(
+        &mut self,
+        caller: u64,
+        raw: Raw,
+        order: Order,
+        rows: Vec<Row>,
+        asked: Asked,
+    ) -> Result<Ticket, Raw> {
+        let place = self.entries.len() as u64 + 1;
+        let reference = order.reference;
+        match self.records.open(asked, place, self.store.time()) {
+            Ok(()) => {}
+            Err(NoMemory) => return Err(raw),
+        }
+        match self.begin(caller, raw, order, rows) {
+            Ok(ticket) => {
+                self.records.attach(place, reference);
+                Ok(ticket)
+            }
+            Err(raw) => {
+                self.records.take_back();
+                Err(raw)
+            }
+        }
+    }
+
+    // Takes room for the run that takes an attempt up again, and makes what its end needs. Gives what the book weighs
+    // with this weight more and the row that it adds.
+    fn room_to_resume(&mut self, weight: u64) -> Option<u64> {
+        let live = self.live + 1;
+        let weight = weights::weight_after_row(weight, live)?;
+        match take_room(&mut self.entries, &mut self.store, 1, live) {
+            Ok(()) => {}
+            Err(NoMemory) => return None,
+        }
+        match add_spare(self.alloc, &mut self.spares) {
+            Ok(()) => Some(weight),
+            Err(NoMemory) => None,
+        }
+    }
+
+    // Takes the parked attempt of a reference up again by an entry of this deed, after which the book weighs this. There
+    // is room for it, and it takes no memory.
+    fn take_up(&mut self, caller: u64, deed: Deed, reference: u64, weight: u64) -> Ticket {
+        let run = self.entries.len() as u64 + 1;
+        let row = resumed_row(&self.store, reference);
+        let ticket = self.attempts.resume(reference, caller, run);
+        self.entries.push_reserved(Entry { caller, deed });
+        push_row(&mut self.store, row);
+        self.weight = weight;
+        self.live += 1;
+        ticket
+    }
+
+    // Enters a call under a key whose attempt is parked, which is taken up again.
+    fn resume_by_call(&mut self, caller: u64, raw: Raw, reference: u64) -> Result<Ticket, Raw> {
+        let Some(weight) = weights::weight_with_raw(self.weight, &raw) else {
+            return Err(raw);
+        };
+        match self.room_to_resume(weight) {
+            Some(weight) => Ok(self.take_up(caller, Deed::Call(raw), reference, weight)),
+            None => Err(raw),
+        }
+    }
+
+    // Enters that the attempt that waits longest is taken up again, where one waits.
+    fn resume(&mut self, caller: u64) -> Result<Option<Ticket>, Refused> {
+        let used = self.entries.len() as u64 + self.live as u64;
+        if weights::has_no_two_places(&self.setup, used) {
+            return Err(Refused::Full);
+        }
+        match self.attempts.parked() {
+            Some(reference) => match self.room_to_resume(self.weight) {
+                Some(weight) => Ok(Some(self.take_up(caller, Deed::Resume, reference, weight))),
+                None => Err(Refused::NoMemory),
+            },
+            None => match take_room(&mut self.entries, &mut self.store, 0, self.live) {
+                Ok(()) => {
+                    self.entries.push_reserved(Entry {
+                        caller,
+                        deed: Deed::Resume,
+                    });
+                    Ok(None)
+                }
+                Err(NoMemory) => Err(Refused::NoMemory),
+            },
+        }
+    }
+
     // Enters a ruling. Where there is no memory, the ticket comes back.
     fn finish(&mut self, caller: u64, ticket: Ticket, ruling: Ruling) -> Result<Reply, Ticket>
         requires caller { caller < 2 ^ 62 }
@@ -263,9 +421,10 @@ impl Book {
         let live = one_less(self.live);
         let place = self.entries.len() as u64 + 1;
         let attempt = ticket.order().reference;
-        let Ending { reply, rows } = match settled(
+        let Ending { reply, rows, saving } = match settled(
             self.alloc,
             &self.store,
+            &self.records,
             place,
             attempt,
             ruling,
@@ -274,6 +433,9 @@ impl Book {
             Err(NoMemory) => return Err(ticket),
         };
         let Some(weight) = weights::weight_after(self.weight, rows.as_slice(), live) else {
+            return Err(ticket);
+        };
+        let Some(weight) = weights::weight_with_saving(weight, &saving, live) else {
             return Err(ticket);
         };
         match take_room(&mut self.entries, &mut self.store, rows.len(), live) {
@@ -290,7 +452,16 @@ impl Book {
         self.weight = weight;
         self.live = live;
         let _spare = take_spare(&mut self.spares);
+        self.save(reply.status, saving);
         Ok(reply)
+    }
+
+    // Saves a reply for the call of a record, where there is one. It takes no memory.
+    fn save(&mut self, status: u16, saving: Option<Saving>) {
+        match saving {
+            Some(Saving { entry, body }) => self.records.save(entry, status, body),
+            None => {}
+        }
     }
 
     // Enters the end of a run that is given up. It is never refused, and takes no memory.

@@ -6,6 +6,7 @@ mod book;
 mod calls;
 mod endings;
 mod hosted;
+mod judged;
 mod laws;
 mod object;
 mod replies;

@@ -12,7 +12,8 @@ use Rattle.ph_idem.specs.declared.found.Found.{Found}
 use Rattle.ph_idem.specs.declared.found.Found.TheVariants.{Fresh, Differs, Begun, Saved}
 use Rattle.ph_idem.specs.declared.key_record.KeyRecord.{KeyRecord}
 use Rattle.ph_idem.specs.declared.key_record.Saved.{Saved as Reply}
-use Rattle.ph_idem.specs.Kept.{Asked, Opening, has_key, is_like, kept_of, opening_of, openings, records_after, reference_said, reply_found}
+use Rattle.ph_idem.specs.declared.asked.Asked.{Asked}
+use Rattle.ph_idem.specs.Kept.{Opening, has_key, is_like, kept_of, opening_of, openings, records_after, reference_said, reply_found}
 use Rattle.ph_idem.specs.Laws.{FindsAs, FindsLive, FindsParked, FindsSaved, RecordsAreFound}
 use Rattle.ph_idem.specs.Records as kept
 use Rattle.ph_idem.specs.Shapes.{is_same_shape}

@@ -16,7 +16,8 @@ use Rattle.ph_doings.proofs.Kept.{sound}
 use Rattle.ph_doings.proofs.Sound.{HasOwnReferences}
 use Rattle.ph_idem.specs.declared.key_record.KeyRecord.{KeyRecord}
 use Rattle.ph_idem.specs.declared.key_record.Saved.{Saved as Reply}
-use Rattle.ph_idem.specs.Kept.{Asked, Opening, has_key, is_like, kept_of, opening_of, openings, records_after, reference_said, reply_found}
+use Rattle.ph_idem.specs.declared.asked.Asked.{Asked}
+use Rattle.ph_idem.specs.Kept.{Opening, has_key, is_like, kept_of, opening_of, openings, records_after, reference_said, reply_found}
 use Rattle.ph_idem.specs.Laws.{AreTold, RecordsAreKept, Tells, TellsIf, after_turn, opened_as, saved_under, with_opened, with_settled}
 use Rattle.ph_idem.specs.Records.{is_attached, is_entry, update_first, with_result}
 use Rattle.ph_idem.proofs.OpenLemmas.{AreOpened, IsOpened, are_opened, lawful_doings, length_doings}

@@ -6,7 +6,8 @@ use Rattle.ph_doings.specs.Confirmations.{begun_at, begun_by}
 use Rattle.ph_doings.specs.Doings.{Doing}
 use Rattle.ph_doings.specs.Lawful.{IsLawful}
 use Rattle.ph_doings.specs.Records.{AreLawful, Opened, Never, Opens, Said, Replies, Silence, Waits, Turn, doings_of, is_over, last_opened, opened_by, said_at, time_of}
-use Rattle.ph_idem.specs.Kept.{Asked, Opening, has_key, is_like, opening_of, openings}
+use Rattle.ph_idem.specs.declared.asked.Asked.{Asked}
+use Rattle.ph_idem.specs.Kept.{Opening, has_key, is_like, opening_of, openings}
 use Rattle.ph_idem.specs.Laws.{AreTold, Tells, TellsIf}
 
 pub length_doings : (past : List (Turn Asked)) → length (doings_of past) ≡ length past

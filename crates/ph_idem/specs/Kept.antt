@@ -2,16 +2,10 @@
 use Rattle.std.specs.Prelude.{ℕ, suc, ◌==◌, ◌&&◌, Bool, if◌then◌else◌, List, [], ◌∷◌, ◌++◌, length, map, Option, Some, None, bytes_eq}
 use Rattle.ph_doings.specs.Records.{Found, Fresh, Differs, Live, Parked, Said, Replies, Silence, Waits, Turn, is_over, last_opened, result_of, said_at, time_of}
 use Rattle.ph_doings.specs.Records as doing
+use Rattle.ph_idem.specs.declared.asked.Asked.{Asked}
 use Rattle.ph_idem.specs.declared.key_record.KeyRecord.{KeyRecord}
 use Rattle.ph_idem.specs.declared.key_record.Saved.{Saved as Reply}
-use Rattle.ph_idem.specs.declared.shape.Shape.{Shape}
 use Rattle.ph_idem.specs.Shapes.{is_same_shape}
-
--- what a call asks under a key
-pub record Asked : Type 0 where
-  pub account : ℕ
-  pub key : List ℕ
-  pub shape : Shape
 
 -- an earlier call had the account and key of this one
 abbrev pub has_key : Asked → Asked → Bool

@@ -10,7 +10,8 @@ use Rattle.ph_idem.specs.declared.found.Found.{Found}
 use Rattle.ph_idem.specs.declared.found.Found.TheVariants.{Fresh, Differs, Begun, Saved}
 use Rattle.ph_idem.specs.declared.key_record.KeyRecord.{KeyRecord}
 use Rattle.ph_idem.specs.declared.key_record.Saved.{Saved as Reply}
-use Rattle.ph_idem.specs.Kept.{Asked, Opening, has_key, is_like, opening_of, records_after, reference_said}
+use Rattle.ph_idem.specs.declared.asked.Asked.{Asked}
+use Rattle.ph_idem.specs.Kept.{Opening, has_key, is_like, opening_of, records_after, reference_said}
 use Rattle.ph_idem.specs.Records.{found_in, is_attached, is_entry, saved_in, update_first, with_result}
 
 -- a record whose call has begun is found, and its attempt isn't parked; 0 is no attempt's reference

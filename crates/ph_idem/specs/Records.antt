@@ -2,12 +2,25 @@
 use Rattle.std.specs.Prelude.{ℕ, ◌+◌, ◌==◌, ◌&&◌, nat_le, Bool, false, if◌then◌else◌, List, [], ◌∷◌, Option, Some, None, bytes_eq, unwrap_or}
 use Rattle.std.specs.List.{find}
 use Rattle.ph_doings.specs.Records.{a_day}
+use Rattle.ph_idem.specs.declared.asked.Asked.{Asked}
 use Rattle.ph_idem.specs.declared.found.Found.{Found}
 use Rattle.ph_idem.specs.declared.found.Found.TheVariants.{Fresh, Differs, Begun, Saved}
 use Rattle.ph_idem.specs.declared.key_record.KeyRecord.{KeyRecord}
 use Rattle.ph_idem.specs.declared.key_record.Saved.{Saved as Reply}
 use Rattle.ph_idem.specs.declared.shape.Shape.{Shape}
 use Rattle.ph_idem.specs.Shapes.{is_same_shape}
+
+-- the record of what a call asked, opened by the entry of a place at a moment: it has no attempt and no reply yet
+abbrev pub opened_record : Asked → ℕ → ℕ → KeyRecord
+opened_record asked entry at = record {
+  account = asked.account;
+  key = asked.key;
+  shape = asked.shape;
+  entry = entry;
+  at = at;
+  reference = None;
+  result = None;
+}
 
 -- it is the record of this account and key
 abbrev pub is_of : ℕ → List ℕ → KeyRecord → Bool

@@ -1,8 +1,9 @@
 //! The records of keys.
-ghost use Rattle.std.specs.Prelude.{◌≡◌, ◌∷◌, [], None, option_copied, option_map, OnOk, OnErr};
+ghost use Rattle.std.specs.Prelude.{◌≡◌, ◌∷◌, [], None, drop, option_copied, option_map, OnOk, OnErr};
 ghost use Rattle.std.specs.List.{find, position};
-ghost use Rattle.ph_idem.specs.Records.{found_in, is_attached, is_entry, is_of, saved_in, update_first, with_reference, with_result};
+ghost use Rattle.ph_idem.specs.Records.{found_in, is_attached, is_entry, is_of, opened_record, saved_in, update_first, with_reference, with_result};
 
+use crate::asked::Asked;
 use crate::found::Found;
 use crate::key_record::{KeyRecord, Saved};
 use crate::shape::Shape;
@@ -106,23 +107,20 @@ impl Records {
         attached(&self.records, reference)
     }
 
-    /// Opens a record, by the entry of a place at a moment, in seconds since 1970. Where there is no memory, nothing
-    /// changes.
-    pub fn open(
-        &mut self,
-        alloc: Global,
-        account: u64,
-        key: &[u8],
-        shape: Shape,
-        entry: u64,
-        at: u64,
-    ) -> Result<(), NoMemory>
-        ensures opened { OnOk result (self.new ≡ record { account = account; key = key.now; shape = shape; entry = entry; at = at; reference = None; result = None } ∷ self.old) }
+    /// Opens a record of what a call asks, by the entry of a place at a moment, in seconds since 1970. Where there is no
+    /// memory, nothing changes.
+    pub fn open(&mut self, asked: Asked, entry: u64, at: u64) -> Result<(), NoMemory>
+        ensures opened { OnOk result (self.new ≡ opened_record asked entry at ∷ self.old) }
         ensures refused { OnErr result (self.new ≡ self.old) }
     {
+        let Asked {
+            account,
+            key,
+            shape,
+        } = asked;
         let record = KeyRecord {
             account,
-            key: Bytes::from_slice(alloc, key)?,
+            key,
             shape,
             entry,
             at,
@@ -131,6 +129,15 @@ impl Records {
         };
         self.records.insert(0, record)?;
         Ok(())
+    }
+
+    /// Takes the newest record back, whose entry isn't entered after all. It takes no memory.
+    pub fn take_back(&mut self)
+        ensures { self.new ≡ drop 1 self.old }
+    {
+        if !self.records.is_empty() {
+            let _record = self.records.remove(0);
+        }
     }
 
     /// Attaches the attempt of a reference to the record that the entry of a place opened: its call waits for the
