@@ -21,11 +21,11 @@ use Rattle.ph_idem.specs.Shapes.{is_same_shape}
 -- ---- the last opening of a key
 
 -- the last record of a key, as an opening of it says it
-as_opened : Asked → Option Opening → Opened
+abbrev pub as_opened : Asked → Option Opening → Opened
 as_opened asked None = Never
 as_opened asked (Some opening) = Opens opening.place (is_like asked opening.asked) opening.moment
 
-of_key : Asked → Opening → Bool
+abbrev pub of_key : Asked → Opening → Bool
 of_key asked opening = has_key asked opening.asked
 
 -- whether a record is over doesn't depend on who looks for it
@@ -34,12 +34,12 @@ over_same asked other None now = refl
 over_same asked other (Some opening) now = refl
 
 -- calls of one key look for the same openings
-same_key : (asked other : Asked) → has_key asked other ≡ true → (openings : List Opening) → find (of_key asked) openings ≡ find (of_key other) openings
-same_key asked other same openings =
+same_key : (asked other : Asked) → has_key asked other ≡ true → (all : List Opening) → find (of_key asked) all ≡ find (of_key other) all
+same_key asked other same all =
     let account : other.account ≡ asked.account = account_is (other.account == asked.account) (bytes_eq other.key asked.key) refl same in
     let key : other.key ≡ asked.key = key_is (other.account == asked.account) (bytes_eq other.key asked.key) refl same in
-    ap (λ (k : List ℕ). find (λ (o : Opening). o.asked.account == asked.account && bytes_eq o.asked.key k) openings) (sym key)
-    ∙ ap (λ (a : ℕ). find (λ (o : Opening). o.asked.account == a && bytes_eq o.asked.key other.key) openings) (sym account)
+    ap (λ (k : List ℕ). find (λ (o : Opening). o.asked.account == asked.account && bytes_eq o.asked.key k) all) (sym key)
+    ∙ ap (λ (a : ℕ). find (λ (o : Opening). o.asked.account == a && bytes_eq o.asked.key other.key) all) (sym account)
   where
     account_is : (one two : Bool) → (other.account == asked.account) ≡ one → (one && two) ≡ true → other.account ≡ asked.account
     account_is true two e both = grind (arith, nat_tests, e)
@@ -53,7 +53,7 @@ same_key asked other same openings =
 last_is : (opened : ℕ) (past : List (Turn Asked)) (asked : Asked)
     → last_opened (has_key asked) (is_like asked) opened past ≡ as_opened asked (find (of_key asked) (openings opened past))
 last_is opened [] asked = refl
-last_is opened (turn ∷ past) asked = at turn.asked
+last_is opened (turn ∷ past) asked = at turn.asked (last_is opened past asked) (λ other. last_is opened past other)
   where
     -- a call that asks this opens a record or none, and is of the key or not
     by : (other : Asked) (of fresh : Bool) → has_key asked other ≡ of
@@ -67,96 +67,99 @@ last_is opened (turn ∷ past) asked = at turn.asked
     by other false true e f same old = rw (e, f, e) old
     by other false false e f same old = rw (e, f) old
 
-    over_of : (other : Asked) → has_key asked other ≡ true
-        → is_over (last_opened (has_key asked) (is_like asked) opened past) (time_of opened past)
-        ≡ is_over (last_opened (has_key other) (is_like other) opened past) (time_of opened past)
-    over_of other same =
-        ap (λ o. is_over o (time_of opened past)) (last_is opened past asked)
-        ∙ ap (λ found. is_over (as_opened asked found) (time_of opened past)) (same_key asked other same (openings opened past))
-        ∙ over_same asked other (find (of_key other) (openings opened past)) (time_of opened past)
-        ∙ ap (λ o. is_over o (time_of opened past)) (sym (last_is opened past other))
-
     at : (said : Option Asked)
+        → last_opened (has_key asked) (is_like asked) opened past ≡ as_opened asked (find (of_key asked) (openings opened past))
+        → ((other : Asked) → last_opened (has_key other) (is_like other) opened past ≡ as_opened other (find (of_key other) (openings opened past)))
         → opened_by (has_key asked) (is_like asked) said (suc (length past)) (time_of opened past) (last_opened (has_key asked) (is_like asked) opened past)
         ≡ as_opened asked (find (of_key asked) (opening_of opened past said ++ openings opened past))
-    at None = last_is opened past asked
-    at (Some other) =
+    at None old all = old
+    at (Some other) old all =
         by other (has_key asked other) (is_over (last_opened (has_key other) (is_like other) opened past) (time_of opened past)) refl refl
-        (over_of other) (last_is opened past asked)
+        (λ same.
+        ap (λ o. is_over o (time_of opened past)) old
+        ∙ ap (λ found. is_over (as_opened asked found) (time_of opened past)) (same_key asked other same (openings opened past))
+        ∙ over_same asked other (find (of_key other) (openings opened past)) (time_of opened past)
+        ∙ ap (λ o. is_over o (time_of opened past)) (sym (all other)))
+        old
 
 -- ---- records of openings
 
-kept_if : (ℕ → Reply) → List (Turn Asked) → Option Opening → Option KeyRecord
+abbrev pub kept_if : (ℕ → Reply) → List (Turn Asked) → Option Opening → Option KeyRecord
 kept_if reply past None = None
 kept_if reply past (Some opening) = Some (kept_of reply past opening)
 
 -- a record is found where its opening is
-find_kept : (reply : ℕ → Reply) (past : List (Turn Asked)) (test : KeyRecord → Bool) (openings : List Opening)
-    → find test (map (kept_of reply past) openings) ≡ kept_if reply past (find (λ opening. test (kept_of reply past opening)) openings)
+find_kept : (reply : ℕ → Reply) (past : List (Turn Asked)) (test : KeyRecord → Bool) (all : List Opening)
+    → find test (map (kept_of reply past) all) ≡ kept_if reply past (find (λ (o : Opening). test (kept_of reply past o)) all)
 find_kept reply past test [] = refl
-find_kept reply past test (opening ∷ openings) = at (test (kept_of reply past opening)) refl
+find_kept reply past test (opening ∷ all) = at (test (kept_of reply past opening)) refl (find_kept reply past test all)
   where
     at : (passes : Bool) → test (kept_of reply past opening) ≡ passes
-        → find test (kept_of reply past opening ∷ map (kept_of reply past) openings)
-        ≡ kept_if reply past (find (λ (o : Opening). test (kept_of reply past o)) (opening ∷ openings))
-    at true e = rw (e, e) refl
-    at false e = rw (e, e) (find_kept reply past test openings)
+        → find test (map (kept_of reply past) all) ≡ kept_if reply past (find (λ (o : Opening). test (kept_of reply past o)) all)
+        → find test (kept_of reply past opening ∷ map (kept_of reply past) all)
+        ≡ kept_if reply past (find (λ (o : Opening). test (kept_of reply past o)) (opening ∷ all))
+    at true e rest = rw e refl
+    at false e rest = rw e rest
 
 -- ---- places of openings: newest first, each below those in front of it
 
-pub Descend : ℕ → List Opening → Type 0
+abbrev pub Descend : ℕ → List Opening → Type 0
 Descend bound [] = Unit {0}
-Descend bound (opening ∷ openings) = (opening.place < bound) × Descend opening.place openings
+Descend bound (opening ∷ all) = (opening.place < bound) × Descend opening.place all
 
-lower : (bound above : ℕ) (openings : List Opening) → bound ≤ above → Descend bound openings → Descend above openings
+lower : (bound above : ℕ) (all : List Opening) → bound ≤ above → Descend bound all → Descend above all
 lower bound above [] le down = tt
-lower bound above (opening ∷ openings) le down = (let lt = down.0 in omega (arith, lt, le), down.1)
+lower bound above (opening ∷ all) le down = (let lt = down.0 in omega (arith, lt, le), down.1)
 
 descend : (opened : ℕ) (past : List (Turn Asked)) → Descend (suc (length past)) (openings opened past)
 descend opened [] = tt
-descend opened (turn ∷ past) = at turn.asked
+descend opened (turn ∷ past) = at turn.asked (descend opened past)
   where
-    over : (asked : Asked) (fresh : Bool) → Descend (suc (suc (length past)))
+    over : (asked : Asked) (fresh : Bool) → Descend (suc (length past)) (openings opened past) → Descend (suc (suc (length past)))
         ((if fresh then (record { asked = asked; place = suc (length past); moment = time_of opened past }) ∷ [] else []) ++ openings opened past)
-    over asked true = (omega arith, descend opened past)
-    over asked false = lower (suc (length past)) (suc (suc (length past))) (openings opened past) (omega arith) (descend opened past)
-    at : (asked : Option Asked) → Descend (suc (suc (length past))) (opening_of opened past asked ++ openings opened past)
-    at None = lower (suc (length past)) (suc (suc (length past))) (openings opened past) (omega arith) (descend opened past)
-    at (Some asked) = over asked (is_over (last_opened (has_key asked) (is_like asked) opened past) (time_of opened past))
+    over asked true down = (omega arith, down)
+    over asked false down = lower (suc (length past)) (suc (suc (length past))) (openings opened past) (omega arith) down
+    at : (asked : Option Asked) → Descend (suc (length past)) (openings opened past)
+        → Descend (suc (suc (length past))) (opening_of opened past asked ++ openings opened past)
+    at None down = lower (suc (length past)) (suc (suc (length past))) (openings opened past) (omega arith) down
+    at (Some asked) down = over asked (is_over (last_opened (has_key asked) (is_like asked) opened past) (time_of opened past)) down
 
 -- an opening that is found stands below the bound
-found_below : (bound : ℕ) (test : Opening → Bool) (openings : List Opening) (opening : Opening) → Descend bound openings
-    → find test openings ≡ Some opening → opening.place < bound
+found_below : (bound : ℕ) (test : Opening → Bool) (all : List Opening) (opening : Opening) → Descend bound all
+    → find test all ≡ Some opening → opening.place < bound
 found_below bound test [] opening down is = absurd (cc)
-found_below bound test (first ∷ openings) opening down is = at (test first) refl
+found_below bound test (first ∷ all) opening down is = at (test first) refl (found_below first.place test all opening down.1)
   where
-    at : (passes : Bool) → test first ≡ passes → opening.place < bound
-    at true e =
+    at : (passes : Bool) → test first ≡ passes → (find test all ≡ Some opening → opening.place < first.place) → opening.place < bound
+    at true e rest =
         let same : Some first ≡ Some opening = rw e at is in
         let first_is : first ≡ opening = cc in
         subst (λ (o : Opening). o.place < bound) first_is down.0
-    at false e =
-        let rest : opening.place < first.place = found_below first.place test openings opening down.1 (rw e at is) in
+    at false e rest =
+        let behind : opening.place < first.place = rest (rw e at is) in
         let lt = down.0 in
-        omega (arith, rest, lt)
+        omega (arith, behind, lt)
 
 -- what is found is found again by its place
-find_again : (bound : ℕ) (test : Opening → Bool) (openings : List Opening) (opening : Opening) → Descend bound openings
-    → find test openings ≡ Some opening → find (λ (o : Opening). o.place == opening.place) openings ≡ Some opening
+find_again : (bound : ℕ) (test : Opening → Bool) (all : List Opening) (opening : Opening) → Descend bound all
+    → find test all ≡ Some opening → find (λ (o : Opening). o.place == opening.place) all ≡ Some opening
 find_again bound test [] opening down is = absurd (cc)
-find_again bound test (first ∷ openings) opening down is = at (test first) refl
+find_again bound test (first ∷ all) opening down is = at (test first) refl (find_again first.place test all opening down.1)
   where
-    at : (passes : Bool) → test first ≡ passes → find (λ (o : Opening). o.place == opening.place) (first ∷ openings) ≡ Some opening
-    at true e =
+    at : (passes : Bool) → test first ≡ passes
+        → (find test all ≡ Some opening → find (λ (o : Opening). o.place == opening.place) all ≡ Some opening)
+        → find (λ (o : Opening). o.place == opening.place) (first ∷ all) ≡ Some opening
+    at true e rest =
         let same : Some first ≡ Some opening = rw e at is in
         let first_is : first ≡ opening = cc in
-        let place : (first.place == opening.place) ≡ true = let p : first.place ≡ opening.place = ap (λ (o : Opening). o.place) first_is in grind (arith, nat_tests, p) in
+        let p : first.place ≡ opening.place = ap (λ (o : Opening). o.place) first_is in
+        let place : (first.place == opening.place) ≡ true = grind (arith, nat_tests, p) in
         rw place same
-    at false e =
-        let rest : find test openings ≡ Some opening = rw e at is in
-        let below : opening.place < first.place = found_below first.place test openings opening down.1 rest in
+    at false e rest =
+        let behind : find test all ≡ Some opening = rw e at is in
+        let below : opening.place < first.place = found_below first.place test all opening down.1 behind in
         let apart : (first.place == opening.place) ≡ false = grind (arith, nat_tests, below) in
-        rw apart (find_again first.place test openings opening down.1 rest)
+        rw apart (rest behind)
 
 -- ---- what is found of a record
 

@@ -25,7 +25,7 @@ use Rattle.ph_idem.proofs.OpenLemmas.{AreOpened, IsOpened, are_opened, lawful_do
 -- ---- what was saved for a call, after one doing more
 
 -- what is saved for a call to which this was said, after a doing of the last place that settles it or another
-result_after : Reply → Doing → Said → Option Reply → Option Reply
+abbrev pub result_after : Reply → Doing → Said → Option Reply → Option Reply
 result_after reply (Settles intent flight capture ruling) (Waits reference) old = if reference == flight.order.reference then Some reply else old
 result_after reply (Settles intent flight capture ruling) Replies old = old
 result_after reply (Settles intent flight capture ruling) Silence old = old
@@ -44,7 +44,7 @@ same_attempt one other reference (Stands intent order Live) same = refl
 same_attempt one other reference (Stands intent order Parked) same = refl
 same_attempt one other reference (Stands intent order (Settled ruling)) same = ap Saved same
 
-ResultAfter : (ℕ → Reply) → List Doing → Doing → ℕ → Type 0
+abbrev pub ResultAfter : (ℕ → Reply) → List Doing → Doing → ℕ → Type 0
 ResultAfter reply past doing reference =
     reply_found reply (result_of_attempt (doing ∷ past) reference (standing_of (doing ∷ past) reference))
     ≡ result_after (reply (suc (length past))) doing (Waits reference) (reply_found reply (result_of_attempt past reference (standing_of past reference)))
@@ -96,7 +96,7 @@ after_settles : (reply : ℕ → Reply) (past : List Doing) (intent : ℕ) (flig
 after_settles reply past intent flight capture ruling reference = at (reference == flight.order.reference) refl
   where
     at : (same : Bool) → (reference == flight.order.reference) ≡ same → ResultAfter reply past (Settles intent flight capture ruling) reference
-    at true e = rw (e, e, e) refl
+    at true e = rw e refl
     at false e = rw e (after_quiet reply past (Settles intent flight capture ruling) reference (rw e refl) (rw e refl))
 
 after_attempt : (reply : ℕ → Reply) (past : List Doing) (doing : Doing) (reference : ℕ) → MayDo past doing
@@ -129,7 +129,7 @@ after_said reply past doing place (Waits reference) may begun = after_attempt re
 
 -- ---- one record, after one turn more
 
-kept_with : Opening → Said → Option Reply → KeyRecord
+abbrev pub kept_with : Opening → Said → Option Reply → KeyRecord
 kept_with opening said result = record {
   account = opening.asked.account;
   key = opening.asked.key;
@@ -141,10 +141,10 @@ kept_with opening said result = record {
 }
 
 -- a record after a ruling on the attempt of a reference
-marked_by : Reply → ℕ → KeyRecord → KeyRecord
+abbrev pub marked_by : Reply → ℕ → KeyRecord → KeyRecord
 marked_by reply reference kept = if is_attached reference kept then with_result reply kept else kept
 
-marked : Reply → Doing → KeyRecord → KeyRecord
+abbrev pub marked : Reply → Doing → KeyRecord → KeyRecord
 marked reply Leaves kept = kept
 marked reply (Puts intent status) kept = kept
 marked reply (Edits intent status) kept = kept
@@ -188,14 +188,14 @@ kept_one reply past turn opening bound may own is =
     (reply_found reply (result_said (doings_of past) opening.place (said_at past opening.place)))
     ∙ ap (λ n. marked (reply (suc n)) turn.doing (kept_of reply past opening)) (length_doings past)
 
-kept_all : (reply : ℕ → Reply) (past : List (Turn Asked)) (turn : Turn Asked) (openings : List Opening) (bound : ℕ)
-    → MayDo (doings_of past) turn.doing → HasOwnReferences (doings_of past) → AreOpened past bound openings
-    → map (kept_of reply (turn ∷ past)) openings ≡ map (marked (reply (suc (length past))) turn.doing) (map (kept_of reply past) openings)
+kept_all : (reply : ℕ → Reply) (past : List (Turn Asked)) (turn : Turn Asked) (all : List Opening) (bound : ℕ)
+    → MayDo (doings_of past) turn.doing → HasOwnReferences (doings_of past) → AreOpened past bound all
+    → map (kept_of reply (turn ∷ past)) all ≡ map (marked (reply (suc (length past))) turn.doing) (map (kept_of reply past) all)
 kept_all reply past turn [] bound may own are = refl
-kept_all reply past turn (opening ∷ openings) bound may own are =
-    ap (λ (first : KeyRecord). first ∷ map (kept_of reply (turn ∷ past)) openings) (kept_one reply past turn opening bound may own are.0)
+kept_all reply past turn (opening ∷ all) bound may own are =
+    ap (λ (first : KeyRecord). first ∷ map (kept_of reply (turn ∷ past)) all) (kept_one reply past turn opening bound may own are.0)
     ∙ ap (λ (rest : List KeyRecord). marked (reply (suc (length past))) turn.doing (kept_of reply past opening) ∷ rest)
-    (kept_all reply past turn openings opening.place may own are.1)
+    (kept_all reply past turn all opening.place may own are.1)
 
 -- ---- all records, after a ruling
 
@@ -218,82 +218,86 @@ attached_said reply past opening reference is = at (said_at past opening.place) 
         e ∙ ap Waits waits
 
 -- behind an opening that began an attempt no other waits for it
-unmarked : (reply : ℕ → Reply) (past : List (Turn Asked)) (settled : Reply) (reference place : ℕ) (openings : List Opening) (bound : ℕ)
-    → HasOwnReferences (doings_of past) → begun_at (doings_of past) place ≡ Some reference → bound ≤ place → AreOpened past bound openings
-    → map (marked_by settled reference) (map (kept_of reply past) openings) ≡ map (kept_of reply past) openings
+unmarked : (reply : ℕ → Reply) (past : List (Turn Asked)) (settled : Reply) (reference place : ℕ) (all : List Opening) (bound : ℕ)
+    → HasOwnReferences (doings_of past) → begun_at (doings_of past) place ≡ Some reference → bound ≤ place → AreOpened past bound all
+    → map (marked_by settled reference) (map (kept_of reply past) all) ≡ map (kept_of reply past) all
 unmarked reply past settled reference place [] bound own begun le are = refl
-unmarked reply past settled reference place (opening ∷ openings) bound own begun le are = at (is_attached reference (kept_of reply past opening)) refl
+unmarked reply past settled reference place (opening ∷ all) bound own begun le are =
+    at (is_attached reference (kept_of reply past opening)) refl
+    (unmarked reply past settled reference place all opening.place own begun (let below = are.0.below in omega (arith, below, le)) are.1)
   where
     at : (passes : Bool) → is_attached reference (kept_of reply past opening) ≡ passes
-        → marked_by settled reference (kept_of reply past opening) ∷ map (marked_by settled reference) (map (kept_of reply past) openings)
-        ≡ kept_of reply past opening ∷ map (kept_of reply past) openings
-    at true e =
+        → map (marked_by settled reference) (map (kept_of reply past) all) ≡ map (kept_of reply past) all
+        → marked_by settled reference (kept_of reply past opening) ∷ map (marked_by settled reference) (map (kept_of reply past) all)
+        ≡ kept_of reply past opening ∷ map (kept_of reply past) all
+    at true e rest =
         let same : opening.place ≡ place =
         own.differ opening.place place reference (are.0.begun reference (attached_said reply past opening reference e)) begun in
         let below = are.0.below in
         absurd (omega (arith, same, below, le))
-    at false e =
-        let below = are.0.below in
-        rw e (ap (λ (rest : List KeyRecord). kept_of reply past opening ∷ rest)
-        (unmarked reply past settled reference place openings opening.place own begun (omega (arith, below, le)) are.1))
+    at false e rest = rw e (ap (λ (more : List KeyRecord). kept_of reply past opening ∷ more) rest)
 
 -- a record that is found is of an entry below the bound
-kept_below : (reply : ℕ → Reply) (past : List (Turn Asked)) (test : KeyRecord → Bool) (openings : List Opening) (bound : ℕ) (kept : KeyRecord)
-    → AreOpened past bound openings → find test (map (kept_of reply past) openings) ≡ Some kept → kept.entry < bound
+kept_below : (reply : ℕ → Reply) (past : List (Turn Asked)) (test : KeyRecord → Bool) (all : List Opening) (bound : ℕ) (kept : KeyRecord)
+    → AreOpened past bound all → find test (map (kept_of reply past) all) ≡ Some kept → kept.entry < bound
 kept_below reply past test [] bound kept are is = absurd (cc)
-kept_below reply past test (opening ∷ openings) bound kept are is = at (test (kept_of reply past opening)) refl
+kept_below reply past test (opening ∷ all) bound kept are is =
+    at (test (kept_of reply past opening)) refl (kept_below reply past test all opening.place kept are.1)
   where
-    at : (passes : Bool) → test (kept_of reply past opening) ≡ passes → kept.entry < bound
-    at true e =
+    at : (passes : Bool) → test (kept_of reply past opening) ≡ passes
+        → (find test (map (kept_of reply past) all) ≡ Some kept → kept.entry < opening.place) → kept.entry < bound
+    at true e rest =
         let same : Some (kept_of reply past opening) ≡ Some kept = rw e at is in
         let kept_is : kept_of reply past opening ≡ kept = cc in
         subst (λ (k : KeyRecord). k.entry < bound) kept_is are.0.below
-    at false e =
-        let rest : kept.entry < opening.place = kept_below reply past test openings opening.place kept are.1 (rw e at is) in
+    at false e rest =
+        let behind : kept.entry < opening.place = rest (rw e at is) in
         let below = are.0.below in
-        omega (arith, rest, below)
+        omega (arith, behind, below)
 
-settled_all : (reply : ℕ → Reply) (past : List (Turn Asked)) (settled : Reply) (reference : ℕ) (openings : List Opening) (bound : ℕ)
-    → HasOwnReferences (doings_of past) → AreOpened past bound openings
-    → saved_under settled (find (is_attached reference) (map (kept_of reply past) openings)) (map (kept_of reply past) openings)
-    ≡ map (marked_by settled reference) (map (kept_of reply past) openings)
+settled_all : (reply : ℕ → Reply) (past : List (Turn Asked)) (settled : Reply) (reference : ℕ) (all : List Opening) (bound : ℕ)
+    → HasOwnReferences (doings_of past) → AreOpened past bound all
+    → saved_under settled (find (is_attached reference) (map (kept_of reply past) all)) (map (kept_of reply past) all)
+    ≡ map (marked_by settled reference) (map (kept_of reply past) all)
 settled_all reply past settled reference [] bound own are = refl
-settled_all reply past settled reference (opening ∷ openings) bound own are =
-    at (is_attached reference (kept_of reply past opening)) refl
+settled_all reply past settled reference (opening ∷ all) bound own are =
+    at (is_attached reference (kept_of reply past opening)) refl (settled_all reply past settled reference all opening.place own are.1)
   where
-    none : (found : Option KeyRecord) → find (is_attached reference) (map (kept_of reply past) openings) ≡ found
-        → is_attached reference (kept_of reply past opening) ≡ false
-        → saved_under settled found (kept_of reply past opening ∷ map (kept_of reply past) openings)
-        ≡ kept_of reply past opening ∷ saved_under settled found (map (kept_of reply past) openings)
-    none None is e = refl
-    none (Some kept) is e =
-        let below : kept.entry < opening.place = kept_below reply past (is_attached reference) openings opening.place kept are.1 is in
+    behind : (found : Option KeyRecord) → find (is_attached reference) (map (kept_of reply past) all) ≡ found
+        → saved_under settled found (kept_of reply past opening ∷ map (kept_of reply past) all)
+        ≡ kept_of reply past opening ∷ saved_under settled found (map (kept_of reply past) all)
+    behind None is = refl
+    behind (Some kept) is =
+        let below : kept.entry < opening.place = kept_below reply past (is_attached reference) all opening.place kept are.1 is in
         let apart : (opening.place == kept.entry) ≡ false = grind (arith, nat_tests, below) in
         rw apart refl
 
     at : (passes : Bool) → is_attached reference (kept_of reply past opening) ≡ passes
-        → saved_under settled (find (is_attached reference) (kept_of reply past opening ∷ map (kept_of reply past) openings))
-        (kept_of reply past opening ∷ map (kept_of reply past) openings)
-        ≡ marked_by settled reference (kept_of reply past opening) ∷ map (marked_by settled reference) (map (kept_of reply past) openings)
-    at true e =
+        → saved_under settled (find (is_attached reference) (map (kept_of reply past) all)) (map (kept_of reply past) all)
+        ≡ map (marked_by settled reference) (map (kept_of reply past) all)
+        → saved_under settled (find (is_attached reference) (kept_of reply past opening ∷ map (kept_of reply past) all))
+        (kept_of reply past opening ∷ map (kept_of reply past) all)
+        ≡ marked_by settled reference (kept_of reply past opening) ∷ map (marked_by settled reference) (map (kept_of reply past) all)
+    at true e rest =
         let same : (opening.place == opening.place) ≡ true = grind (arith, nat_tests) in
         let begun : begun_at (doings_of past) opening.place ≡ Some reference = are.0.begun reference (attached_said reply past opening reference e) in
-        rw (e, same, e) (ap (λ (others : List KeyRecord). with_result settled (kept_of reply past opening) ∷ others)
-        (sym (unmarked reply past settled reference opening.place openings opening.place own begun (omega arith) are.1)))
-    at false e =
-        rw (e, e) (none (find (is_attached reference) (map (kept_of reply past) openings)) refl e
-        ∙ ap (λ (others : List KeyRecord). kept_of reply past opening ∷ others) (settled_all reply past settled reference openings opening.place own are.1))
+        let others : map (marked_by settled reference) (map (kept_of reply past) all) ≡ map (kept_of reply past) all =
+        unmarked reply past settled reference opening.place all opening.place own begun (omega arith) are.1 in
+        rw (e, same) (ap (λ (more : List KeyRecord). with_result settled (kept_of reply past opening) ∷ more) (sym others))
+    at false e rest =
+        rw e (behind (find (is_attached reference) (map (kept_of reply past) all)) refl
+        ∙ ap (λ (more : List KeyRecord). kept_of reply past opening ∷ more) rest)
 
-with_settled_all : (reply : ℕ → Reply) (past : List (Turn Asked)) (settled : Reply) (doing : Doing) (openings : List Opening) (bound : ℕ)
-    → HasOwnReferences (doings_of past) → AreOpened past bound openings
-    → with_settled settled doing (map (kept_of reply past) openings) ≡ map (marked settled doing) (map (kept_of reply past) openings)
-with_settled_all reply past settled Leaves openings bound own are = sym (map_same (marked settled Leaves) (map (kept_of reply past) openings) (λ kept. refl))
-with_settled_all reply past settled (Puts intent status) openings bound own are = sym (map_same (marked settled (Puts intent status)) (map (kept_of reply past) openings) (λ kept. refl))
-with_settled_all reply past settled (Edits intent status) openings bound own are = sym (map_same (marked settled (Edits intent status)) (map (kept_of reply past) openings) (λ kept. refl))
-with_settled_all reply past settled (Begins cause intent flight) openings bound own are = sym (map_same (marked settled (Begins cause intent flight)) (map (kept_of reply past) openings) (λ kept. refl))
-with_settled_all reply past settled (Resumes intent flight) openings bound own are = sym (map_same (marked settled (Resumes intent flight)) (map (kept_of reply past) openings) (λ kept. refl))
-with_settled_all reply past settled (Parks intent flight) openings bound own are = sym (map_same (marked settled (Parks intent flight)) (map (kept_of reply past) openings) (λ kept. refl))
-with_settled_all reply past settled (Settles intent flight capture ruling) openings bound own are = settled_all reply past settled flight.order.reference openings bound own are
+with_settled_all : (reply : ℕ → Reply) (past : List (Turn Asked)) (settled : Reply) (doing : Doing) (all : List Opening) (bound : ℕ)
+    → HasOwnReferences (doings_of past) → AreOpened past bound all
+    → with_settled settled doing (map (kept_of reply past) all) ≡ map (marked settled doing) (map (kept_of reply past) all)
+with_settled_all reply past settled Leaves all bound own are = sym (map_same (marked settled Leaves) (map (kept_of reply past) all) (λ kept. refl))
+with_settled_all reply past settled (Puts intent status) all bound own are = sym (map_same (marked settled (Puts intent status)) (map (kept_of reply past) all) (λ kept. refl))
+with_settled_all reply past settled (Edits intent status) all bound own are = sym (map_same (marked settled (Edits intent status)) (map (kept_of reply past) all) (λ kept. refl))
+with_settled_all reply past settled (Begins cause intent flight) all bound own are = sym (map_same (marked settled (Begins cause intent flight)) (map (kept_of reply past) all) (λ kept. refl))
+with_settled_all reply past settled (Resumes intent flight) all bound own are = sym (map_same (marked settled (Resumes intent flight)) (map (kept_of reply past) all) (λ kept. refl))
+with_settled_all reply past settled (Parks intent flight) all bound own are = sym (map_same (marked settled (Parks intent flight)) (map (kept_of reply past) all) (λ kept. refl))
+with_settled_all reply past settled (Settles intent flight capture ruling) all bound own are = settled_all reply past settled flight.order.reference all bound own are
 
 -- ---- a record that is opened
 

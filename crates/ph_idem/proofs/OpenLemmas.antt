@@ -24,9 +24,9 @@ pub record IsOpened (past : List (Turn Asked)) (opening : Opening) (bound : ℕ)
   pub within : opening.place ≤ length past
   pub begun : (reference : ℕ) → said_at past opening.place ≡ Waits reference → begun_at (doings_of past) opening.place ≡ Some reference
 
-pub AreOpened : List (Turn Asked) → ℕ → List Opening → Type 0
+abbrev pub AreOpened : List (Turn Asked) → ℕ → List Opening → Type 0
 AreOpened past bound [] = Unit {0}
-AreOpened past bound (opening ∷ openings) = IsOpened past opening bound × AreOpened past opening.place openings
+AreOpened past bound (opening ∷ all) = IsOpened past opening bound × AreOpened past opening.place all
 
 -- one turn more leaves what was opened
 stays_one : (past : List (Turn Asked)) (turn : Turn Asked) (opening : Opening) (bound : ℕ) → IsOpened past opening bound
@@ -40,17 +40,17 @@ stays_one past turn opening bound is =
       begun = λ reference waits. rw apart_doing (is.begun reference (rw apart at waits));
     }
 
-stays : (past : List (Turn Asked)) (turn : Turn Asked) (bound : ℕ) (openings : List Opening) → AreOpened past bound openings
-    → AreOpened (turn ∷ past) bound openings
+stays : (past : List (Turn Asked)) (turn : Turn Asked) (bound : ℕ) (all : List Opening) → AreOpened past bound all
+    → AreOpened (turn ∷ past) bound all
 stays past turn bound [] are = tt
-stays past turn bound (opening ∷ openings) are =
-    (stays_one past turn opening bound are.0, stays past turn opening.place openings are.1)
+stays past turn bound (opening ∷ all) are =
+    (stays_one past turn opening bound are.0, stays past turn opening.place all are.1)
 
 -- a bound that is no lower
-raised : (past : List (Turn Asked)) (bound above : ℕ) (openings : List Opening) → bound ≤ above → AreOpened past bound openings
-    → AreOpened past above openings
+raised : (past : List (Turn Asked)) (bound above : ℕ) (all : List Opening) → bound ≤ above → AreOpened past bound all
+    → AreOpened past above all
 raised past bound above [] le are = tt
-raised past bound above (opening ∷ openings) le are =
+raised past bound above (opening ∷ all) le are =
     (record {
       below = let below = are.0.below in omega (arith, below, le);
       within = are.0.within;
@@ -79,16 +79,17 @@ are_opened opened [] told = tt
 are_opened opened (turn ∷ past) told =
     at turn.asked told.0 (stays past turn (suc (length past)) (openings opened past) (are_opened opened past told.1))
   where
+    over : (asked : Asked) (fresh : Bool)
+        → TellsIf (if fresh then (record { asked = asked; place = suc (length past); moment = time_of opened past }) ∷ [] else []) turn.said turn.doing
+        → AreOpened (turn ∷ past) (suc (length past)) (openings opened past)
+        → AreOpened (turn ∷ past) (suc (suc (length past)))
+        ((if fresh then (record { asked = asked; place = suc (length past); moment = time_of opened past }) ∷ [] else []) ++ openings opened past)
+    over asked true tells old =
+        (opens_now past turn (record { asked = asked; place = suc (length past); moment = time_of opened past }) refl tells, old)
+    over asked false tells old = raised (turn ∷ past) (suc (length past)) (suc (suc (length past))) (openings opened past) (omega arith) old
+
     at : (asked : Option Asked) → TellsIf (opening_of opened past asked) turn.said turn.doing
         → AreOpened (turn ∷ past) (suc (length past)) (openings opened past)
         → AreOpened (turn ∷ past) (suc (suc (length past))) (opening_of opened past asked ++ openings opened past)
     at None tells old = raised (turn ∷ past) (suc (length past)) (suc (suc (length past))) (openings opened past) (omega arith) old
-    at (Some asked) tells old = over (is_over (last_opened (has_key asked) (is_like asked) opened past) (time_of opened past)) tells
-      where
-        over : (fresh : Bool)
-            → TellsIf (if fresh then (record { asked = asked; place = suc (length past); moment = time_of opened past }) ∷ [] else []) turn.said turn.doing
-            → AreOpened (turn ∷ past) (suc (suc (length past)))
-            ((if fresh then (record { asked = asked; place = suc (length past); moment = time_of opened past }) ∷ [] else []) ++ openings opened past)
-        over true tells =
-            (opens_now past turn (record { asked = asked; place = suc (length past); moment = time_of opened past }) refl tells, old)
-        over false tells = raised (turn ∷ past) (suc (length past)) (suc (suc (length past))) (openings opened past) (omega arith) old
+    at (Some asked) tells old = over asked (is_over (last_opened (has_key asked) (is_like asked) opened past) (time_of opened past)) tells old

@@ -49,6 +49,20 @@ impl KeyRecord {
         }
     }
 
+    /// Attaches the attempt of a reference.
+    pub(crate) fn attach(&mut self, reference: u64)
+        ensures { self.new ≡ spec.with_reference reference self.old }
+    {
+        self.reference = Some(reference);
+    }
+
+    /// Saves the reply to its call.
+    pub(crate) fn save(&mut self, saved: Saved)
+        ensures { self.new ≡ spec.with_result saved self.old }
+    {
+        self.result = Some(saved);
+    }
+
     /// Whether it isn't found any more at a moment.
     fn is_over(&self, at: u64) -> bool
         ensures { result ≡ spec.is_over_at at self.now }

@@ -146,7 +146,7 @@ impl Records {
         ensures { self.new ≡ update_first (is_entry entry) (with_reference reference) self.old }
     {
         match place_of(&self.records, entry) {
-            Some(i) => self.records[i].reference = Some(reference),
+            Some(i) => self.records[i].attach(reference),
             None => {}
         }
     }
@@ -157,7 +157,7 @@ impl Records {
         ensures { self.new ≡ update_first (is_entry entry) (with_result (record { status = status; body = body })) self.old }
     {
         match place_of(&self.records, entry) {
-            Some(i) => self.records[i].result = Some(Saved { status, body }),
+            Some(i) => self.records[i].save(Saved { status, body }),
             None => {}
         }
     }
