@@ -1,6 +1,7 @@
 pub mod ErrorLemmas
 pub mod CallLemmas
 pub mod EffectLemmas
+pub mod KeyLemmas
 pub mod HistoryLemmas
 pub mod StandLemmas
 pub mod LawLemmas
