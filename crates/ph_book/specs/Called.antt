@@ -1,11 +1,17 @@
 -- What the program makes of a call.
-use Rattle.std.specs.Prelude.{◌≡◌, ℕ, ◌+◌, Bool, true, false, if◌then◌else◌, List, [], ◌∷◌, length, Option, Result, Ok, Err, Some, None}
+use Rattle.std.specs.Prelude.{◌≡◌, ℕ, ◌+◌, Bool, true, false, if◌then◌else◌, List, [], ◌∷◌, length, Option, Result, Ok, Err, Some, None, is_some}
 use Rattle.ph_errors.specs.declared.refusal.Refusal.{Refusal}
 use Rattle.ph_errors.specs.declared.refusal.Refusal.TheVariants as refusal
 use Rattle.ph_http.specs.declared.message.Raw.{Raw}
 use Rattle.ph_http.specs.declared.message.Reply.{Reply}
 use Rattle.ph_idem.specs.declared.asked.Asked.{Asked}
+use Rattle.ph_doings.specs.Records.{Found}
+use Rattle.ph_doings.specs.Records as found
+use Rattle.ph_idem.specs.declared.found.Found.{Found as IdemFound}
+use Rattle.ph_idem.specs.declared.found.Found.TheVariants as idem
 use Rattle.ph_idem.specs.declared.key_record.KeyRecord.{KeyRecord}
+use Rattle.ph_idem.specs.declared.key_record.Saved.{Saved}
+use Rattle.ph_idem.specs.Records.{found_in, opened_record, saved_in, with_reference, with_result}
 use Rattle.ph_items.specs.declared.attempts.Attempt.{Attempt}
 use Rattle.ph_items.specs.declared.attempts.AttemptState.{AttemptState}
 use Rattle.ph_items.specs.declared.attempts.AttemptState.TheVariants as state
@@ -22,7 +28,7 @@ use Rattle.ph_book.specs.declared.calls.Called.{Called}
 use Rattle.ph_book.specs.declared.calls.Called.TheVariants as made
 use Rattle.ph_book.specs.declared.calls.Opening.{Opening}
 use Rattle.ph_book.specs.declared.endings.Saving.{Saving}
-use Rattle.ph_book.specs.Calls.{Upshot, Rejects, Replays, Makes, Shows, Sets, key_asked, resumed_outcome}
+use Rattle.ph_book.specs.Calls.{Keys, Upshot, Rejects, Replays, Makes, Shows, Sets, key_asked, resumed_outcome}
 use Rattle.ph_book.specs.Replies.{Said, Replies, Waits, Silence}
 use Rattle.ph_book.specs.History.{Effect, outcome_effect}
 
@@ -40,6 +46,21 @@ record_key (Some kept) = Some kept.key
 abbrev pub saving_of : Option KeyRecord → Reply → Option Saving
 saving_of None reply = None
 saving_of (Some kept) reply = Some (record { entry = kept.entry; body = reply.body })
+
+-- what a record weighs that is opened with a reply
+abbrev pub opening_weight : Option Opening → ℕ
+opening_weight None = 0
+opening_weight (Some opening) = length opening.saved.body
+
+-- the records with one that is opened with a reply, by the entry of a place at a moment
+abbrev pub kept_records : Option Opening → ℕ → ℕ → List KeyRecord → List KeyRecord
+kept_records None entry at records = records
+kept_records (Some opening) entry at records = with_result opening.saved (opened_record opening.asked entry at) ∷ records
+
+-- the records with one that is opened for a call that waits for the ruling on the attempt of a reference
+abbrev pub begun_records : Option Asked → ℕ → ℕ → ℕ → List KeyRecord → List KeyRecord
+begun_records None entry at reference records = records
+begun_records (Some asked) entry at reference records = with_reference reference (opened_record asked entry at) ∷ records
 
 -- what it weighs
 abbrev pub saving_weight : Option Saving → ℕ
@@ -103,19 +124,25 @@ Comes upshot (Err refusal.NoMemory) batch = Unit {0}
 abbrev pub asked_if : Bool → Option Asked → Option Asked
 asked_if opens asked = if opens then asked else None
 
--- an effect is that of a call that asks this under a key, or has none, and is answered so; it opens this record or none
-pub record IsAnswered (asked : Option Asked) (effect : Effect) (reply : Reply) (rows : List Row) (now : ℕ) (opening : Option Opening) : Type 0 where
-  pub said : effect.said ≡ Replies reply
-  pub rows : effect.rows ≡ rows
-  pub now : effect.now ≡ now
-  pub opening : opening ≡ opening_of (asked_if effect.saves asked) reply
+-- a call that is answered opens this record or none, by what it asks under a key
+abbrev pub IsOpening : Option Asked → Effect → Option Opening → Type 0
+IsOpening asked effect opening = (reply : Reply) → effect.said ≡ Replies reply → opening ≡ opening_of (asked_if effect.saves asked) reply
 
--- an effect is that of a call that waits; it opens a record of this or none
-pub record IsWaiting (asked : Option Asked) (effect : Effect) (order : Order) (rows : List Row) (now : ℕ) (opened : Option Asked) : Type 0 where
-  pub said : effect.said ≡ Waits order
+-- an effect is that of a call that is answered so, and opens a record of this or none
+pub record IsAnswered (opened : Option Asked) (effect : Effect) (reply : Reply) (rows : List Row) (now : ℕ) (opening : Option Opening) : Type 0 where
+  pub said : effect.said ≡ Replies reply
+  pub saves : effect.saves ≡ is_some opened
   pub rows : effect.rows ≡ rows
   pub now : effect.now ≡ now
-  pub opened : opened ≡ asked_if effect.saves asked
+  pub opening : opening ≡ opening_of opened reply
+
+-- an effect is that of a call that waits, and opens a record of this or none
+pub record IsWaiting (opened : Option Asked) (effect : Effect) (order : Order) (rows : List Row) (now : ℕ) (asked : Option Asked) : Type 0 where
+  pub said : effect.said ≡ Waits order
+  pub saves : effect.saves ≡ is_some opened
+  pub rows : effect.rows ≡ rows
+  pub now : effect.now ≡ now
+  pub asked : asked ≡ opened
 
 -- an effect is that of a call that takes the attempt of a reference up again, which is parked
 pub record IsResuming (rows : List Row) (now place caller : ℕ) (asked : Option Asked) (effect : Effect) (reference : ℕ) : Type 0 where
@@ -123,8 +150,38 @@ pub record IsResuming (rows : List Row) (now place caller : ℕ) (asked : Option
       (resumed_outcome rows reference (empty_batch (length rows) now place))
   pub parked : is_row_parked (latest_of reference rows) ≡ true
 
--- it is what a call of a caller comes to over rows at a time, as the entry of a place
-abbrev pub IsCalled : List Row → ℕ → ℕ → ℕ → Option Asked → Effect → Called → Type 0
-IsCalled rows now place caller asked effect (made.Answered reply made after opening) = IsAnswered asked effect reply made.items after opening
-IsCalled rows now place caller asked effect (made.Waiting order made opened) = IsWaiting asked effect order made.items now opened
-IsCalled rows now place caller asked effect (made.Resuming reference) = IsResuming rows now place caller asked effect reference
+-- it is what a call comes to that asks this under a key, or has none, and opens a record of it or none, over rows at a time, as the entry of a place
+abbrev pub IsCalled : List Row → ℕ → ℕ → ℕ → Option Asked → Option Asked → Effect → Called → Type 0
+IsCalled rows now place caller asked opened effect (made.Answered reply made after opening) = IsAnswered opened effect reply made.items after opening
+IsCalled rows now place caller asked opened effect (made.Waiting order made of) = IsWaiting opened effect order made.items now of
+IsCalled rows now place caller asked opened effect (made.Resuming reference) = IsResuming rows now place caller asked effect reference
+
+-- an attempt that a record names isn't parked, by its last row
+pub record ServesLive (rows : List Row) (there : IdemFound) : Type 0 where
+  pub reference : ℕ
+  pub found_is : there ≡ idem.Begun reference
+  pub not_parked : is_row_parked (latest_of reference rows) ≡ false
+
+-- it is parked
+pub record ServesParked (rows : List Row) (reference : ℕ) (there : IdemFound) : Type 0 where
+  pub found_is : there ≡ idem.Begun reference
+  pub parked : is_row_parked (latest_of reference rows) ≡ true
+
+-- a record has this reply
+pub record ServesSaved (records : List KeyRecord) (reply : Saved) (there : IdemFound) : Type 0 where
+  pub entry : ℕ
+  pub found_is : there ≡ idem.Saved entry
+  pub reply_is : saved_in entry records ≡ Some reply
+
+-- what is found among records, beside these rows, is this of what is known of keys
+abbrev pub ServesFound : Keys → List Row → List KeyRecord → Found → IdemFound → Type 0
+ServesFound keys rows records found.Fresh there = there ≡ idem.Fresh
+ServesFound keys rows records found.Differs there = there ≡ idem.Differs
+ServesFound keys rows records found.Live there = ServesLive rows there
+ServesFound keys rows records (found.Parked reference) there = ServesParked rows reference there
+ServesFound keys rows records (found.Saved place) there = ServesSaved records (keys.reply place) there
+
+-- whatever a call asks, what it finds among the records is what is known
+abbrev pub ServeKeys : Keys → List Row → ℕ → List KeyRecord → Type 0
+ServeKeys keys rows now records = (asked : Asked)
+    → ServesFound keys rows records (keys.found asked) (found_in asked.account asked.key asked.shape now records)

@@ -14,6 +14,7 @@ pub mod Stores
 pub mod Called
 pub mod State
 pub mod Laws
+pub mod KeyLaws
 pub mod Callers
 pub mod Stays
 pub mod Plain

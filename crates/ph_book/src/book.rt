@@ -1,5 +1,5 @@
 //! The book.
-ghost use Rattle.std.specs.Prelude.{◌≡◌, ◌+◌, ◌^◌, ◌<◌, ◌≤◌, ◌↔◌, ◌∷◌, ◌++◌, [], false, true, length, None, Some, IfOk, IfErr, OnOk, OnErr, IsTrue};
+ghost use Rattle.std.specs.Prelude.{◌≡◌, ◌+◌, ◌^◌, ◌<◌, ◌≤◌, ◌↔◌, ◌∷◌, ◌++◌, [], false, true, length, None, Some, IfOk, IfErr, IfNone, IfSome, OnOk, OnErr, IsTrue};
 ghost use Rattle.ph_attempts.specs.Attempts.{Begins};
 ghost use Rattle.ph_doings.specs.Kept.{step_of};
 ghost use Rattle.ph_items.specs.Clocks.{clock_limit};
@@ -7,17 +7,18 @@ ghost use Rattle.ph_lock.specs.declared.object.Refused.{Refused};
 ghost use Rattle.ph_book.specs.declared.acts.Deed.TheVariants as deed;
 ghost use Rattle.ph_book.specs.State.{BookState, entered};
 ghost use Rattle.ph_book.specs.Answers.{HasStatus, IsAnswerTo, IsNoPark, Says, is_ruled, replies_in};
-ghost use Rattle.ph_book.specs.Called.{IsCalled, Steps};
-ghost use Rattle.ph_book.specs.Entries.{IsGranted, IsWithinClock, call_entry, deed_of, entry_of, finish_entry, park_entry, tick_entry};
-ghost use Rattle.ph_book.specs.History.{effect_to, opening_row, replies_of, said_to, time_of};
+ghost use Rattle.ph_book.specs.Called.{IsCalled, IsOpening, IsResuming, asked_if};
+ghost use Rattle.ph_book.specs.Entries.{IsGranted, IsWithinClock, call_entry, deed_of, entry_of, finish_entry, park_entry, resume_entry, tick_entry};
+ghost use Rattle.ph_book.specs.History.{deed_asks, effect_to, opening_row, replies_of, rows_of, said_to, time_of};
 ghost use Rattle.ph_book.specs.Queries.{Sees};
-ghost use Rattle.ph_book.specs.Replies.{Replies, Silence, park_reply};
+ghost use Rattle.ph_book.specs.Replies.{Replies, Silence, Waits, park_reply};
 ghost use Rattle.ph_book.specs.Legal.{is_full, IsLegal};
 ghost use Rattle.ph_book.specs.Tickets.{HandsOut, Holds, SpendsOwn};
 
 use crate::acts::{Act, Answer, Deed, Entry, Query};
 use crate::calls::{Called, Opening, called_by};
 use crate::endings::{Ending, Saving, parked_row, resumed_row, settled};
+use crate::keeping::{keep, open};
 use crate::room::{later, one_less, push_row, take_room};
 use crate::setup::{Setup, few_entries};
 use crate::spares::{Spare, add_spare, take_spare};
@@ -26,7 +27,7 @@ use crate::weights::{self, row_weight};
 use ph_attempts::{Attempts, Ticket};
 use ph_base::{Kind, NoMemory, Ruling, Why};
 use ph_http::{Raw, Reply};
-use ph_idem::{Asked, Records, Saved};
+use ph_idem::{Asked, Records};
 use ph_items::{Account, AccountType, Item, Metadata, Order, PLATFORM};
 use ph_lock::Refused;
 use ph_money::Currency;
@@ -179,30 +180,21 @@ impl Book {
     fn enter_called(&mut self, caller: u64, raw: Raw, called: Called) -> Result<Answer, Raw>
         requires caller { caller < 2 ^ 62 }
         requires room { is_full self.old.setup self.old.history (deed.Call raw) ≡ false }
-        requires steps { Steps caller (length self.old.history + 1) (effect_to self.old.setup self.old.history (call_entry caller raw)) }
-        requires called { IsCalled (time_of self.old.setup self.old.history) (effect_to self.old.setup self.old.history (call_entry caller raw)) called }
+        requires called { IsCalled (rows_of self.old.setup self.old.history) (time_of self.old.setup self.old.history) (length self.old.history + 1) caller (deed_asks self.old.setup (deed.Call raw)) (asked_if (effect_to self.old.setup self.old.history (call_entry caller raw)).saves (deed_asks self.old.setup (deed.Call raw))) (effect_to self.old.setup self.old.history (call_entry caller raw)) called }
         ensures entry { OnOk result (self.new ≡ entered self.old (call_entry caller raw)) }
         ensures answer { IfOk result (λ answer. Says (length self.old.history + 1) caller (said_to self.old.setup self.old.history (call_entry caller raw)) answer) }
         ensures live { IfOk result (λ answer. HandsOut self.new.setup self.new.history caller answer) }
         ensures unchanged { IfErr result (λ back. (back ≡ raw) × (self.new ≡ self.old)) }
     {
         match called {
-            Called::Answered(reply, rows, now, None) => match self.enter(caller, raw, rows, now) {
-                Ok(()) => Ok(Answer::Reply(reply)),
-                Err(raw) => Err(raw),
-            },
-            Called::Answered(reply, rows, now, Some(opening)) => {
-                match self.enter_opening(caller, raw, rows, now, opening) {
+            Called::Answered(reply, rows, now, opening) => {
+                match self.enter(caller, raw, rows, now, opening) {
                     Ok(()) => Ok(Answer::Reply(reply)),
                     Err(raw) => Err(raw),
                 }
             }
-            Called::Waiting(order, rows, None) => match self.begin(caller, raw, order, rows) {
-                Ok(ticket) => Ok(Answer::Wait(ticket)),
-                Err(raw) => Err(raw),
-            },
-            Called::Waiting(order, rows, Some(asked)) => {
-                match self.begin_opening(caller, raw, order, rows, asked) {
+            Called::Waiting(order, rows, asked) => {
+                match self.begin(caller, raw, order, rows, asked) {
                     Ok(ticket) => Ok(Answer::Wait(ticket)),
                     Err(raw) => Err(raw),
                 }
@@ -214,61 +206,40 @@ impl Book {
         }
     }
 
-    // Enters a call that is answered at once, makes these rows and leaves this time.
-    fn enter(&mut self, caller: u64, raw: Raw, rows: Vec<Row>, now: u64) -> Result<(), Raw>
-        requires caller { caller < 2 ^ 62 }
-        requires room { is_full self.old.setup self.old.history (deed.Call raw) ≡ false }
-        requires rows { (effect_to self.old.setup self.old.history (call_entry caller raw)).rows ≡ rows.items }
-        requires step { step_of (effect_to self.old.setup self.old.history (call_entry caller raw)).doing ≡ None }
-        requires now { (effect_to self.old.setup self.old.history (call_entry caller raw)).now ≡ now }
-        ensures entry { OnOk result (self.new ≡ entered self.old (call_entry caller raw)) }
-        ensures unchanged { IfErr result (λ back. (back ≡ raw) × (self.new ≡ self.old)) }
-    {
-        let Some(weight) = weights::weight_after_call(self.weight, &raw, rows.as_slice(), self.live)
-        else {
-            return Err(raw);
-        };
-        match take_room(&mut self.entries, &mut self.store, rows.len(), self.live) {
-            Ok(()) => {}
-            Err(NoMemory) => return Err(raw),
-        }
-        self.entries.push_reserved(Entry {
-            caller,
-            deed: Deed::Call(raw),
-        });
-        self.store.append_reserved(rows);
-        self.store.advance(now);
-        self.weight = weight;
-        Ok(())
-    }
-
-    // The same, where the call opens a record, which has the reply at once.
-    fn enter_opening(
+    // Enters a call that is answered at once, makes these rows, leaves this time, and opens a record or none.
+    fn enter(
         &mut self,
         caller: u64,
         raw: Raw,
         rows: Vec<Row>,
         now: u64,
-        opening: Opening,
-    ) -> Result<(), Raw> {
-        let Opening { asked, saved: Saved { status, body } } = opening;
+        opening: Option<Opening>,
+    ) -> Result<(), Raw>
+        requires caller { caller < 2 ^ 62 }
+        requires room { is_full self.old.setup self.old.history (deed.Call raw) ≡ false }
+        requires rows { (effect_to self.old.setup self.old.history (call_entry caller raw)).rows ≡ rows.items }
+        requires step { step_of (effect_to self.old.setup self.old.history (call_entry caller raw)).doing ≡ None }
+        requires now { (effect_to self.old.setup self.old.history (call_entry caller raw)).now ≡ now }
+        requires opening { IsOpening (deed_asks self.old.setup (deed.Call raw)) (effect_to self.old.setup self.old.history (call_entry caller raw)) opening }
+        ensures entry { OnOk result (self.new ≡ entered self.old (call_entry caller raw)) }
+        ensures unchanged { IfErr result (λ back. (back ≡ raw) × (self.new ≡ self.old)) }
+    {
         let place = self.entries.len() as u64 + 1;
         let Some(weight) = weights::weight_after_call(self.weight, &raw, rows.as_slice(), self.live)
         else {
             return Err(raw);
         };
-        let Some(weight) = weights::weight_with_body(weight, &body, self.live) else {
+        let Some(weight) = weights::weight_with_opening(weight, &opening, self.live) else {
             return Err(raw);
         };
         match take_room(&mut self.entries, &mut self.store, rows.len(), self.live) {
             Ok(()) => {}
             Err(NoMemory) => return Err(raw),
         }
-        match self.records.open(asked, place, self.store.time()) {
+        match keep(&mut self.records, opening, place, self.store.time()) {
             Ok(()) => {}
             Err(NoMemory) => return Err(raw),
         }
-        self.records.save(place, status, body);
         self.entries.push_reserved(Entry {
             caller,
             deed: Deed::Call(raw),
@@ -279,13 +250,23 @@ impl Book {
         Ok(())
     }
 
-    // Enters a call that waits for an order, and makes these rows. What the end of its run needs is made now.
-    fn begin(&mut self, caller: u64, raw: Raw, order: Order, rows: Vec<Row>) -> Result<Ticket, Raw>
+    // Enters a call that waits for an order, makes these rows, and opens a record of what it asks or none. What the end of
+    // its run needs is made now.
+    fn begin(
+        &mut self,
+        caller: u64,
+        raw: Raw,
+        order: Order,
+        rows: Vec<Row>,
+        asked: Option<Asked>,
+    ) -> Result<Ticket, Raw>
         requires caller { caller < 2 ^ 62 }
         requires room { is_full self.old.setup self.old.history (deed.Call raw) ≡ false }
+        requires said { (effect_to self.old.setup self.old.history (call_entry caller raw)).said ≡ Waits order }
         requires rows { (effect_to self.old.setup self.old.history (call_entry caller raw)).rows ≡ rows.items }
         requires step { step_of (effect_to self.old.setup self.old.history (call_entry caller raw)).doing ≡ Some (Begins (record { caller = caller; run = length self.old.history + 1; order = order })) }
         requires now { (effect_to self.old.setup self.old.history (call_entry caller raw)).now ≡ time_of self.old.setup self.old.history }
+        requires asked { asked ≡ asked_if (effect_to self.old.setup self.old.history (call_entry caller raw)).saves (deed_asks self.old.setup (deed.Call raw)) }
         ensures entry { OnOk result (self.new ≡ entered self.old (call_entry caller raw)) }
         ensures ticket { IfOk result (λ ticket. ticket ≡ record { caller = caller; run = length self.old.history + 1; order = order }) }
         ensures live { IfOk result (λ ticket. Holds self.new.setup self.new.history caller ticket) }
@@ -305,9 +286,16 @@ impl Book {
             Ok(()) => {}
             Err(NoMemory) => return Err(raw),
         }
+        match open(&mut self.records, asked, run, self.store.time(), order.reference) {
+            Ok(()) => {}
+            Err(NoMemory) => return Err(raw),
+        }
         let ticket = match self.attempts.begin(caller, run, order) {
             Ok(ticket) => ticket,
-            Err(NoMemory) => return Err(raw),
+            Err(NoMemory) => {
+                self.records.take_back(run);
+                return Err(raw);
+            }
         };
         self.entries.push_reserved(Entry {
             caller,
@@ -317,33 +305,6 @@ impl Book {
         self.weight = weight;
         self.live = live;
         Ok(ticket)
-    }
-
-    // The same, where the call opens a record, to which the attempt is attached.
-    fn begin_opening(
-        &mut self,
-        caller: u64,
-        raw: Raw,
-        order: Order,
-        rows: Vec<Row>,
-        asked: Asked,
-    ) -> Result<Ticket, Raw> {
-        let place = self.entries.len() as u64 + 1;
-        let reference = order.reference;
-        match self.records.open(asked, place, self.store.time()) {
-            Ok(()) => {}
-            Err(NoMemory) => return Err(raw),
-        }
-        match self.begin(caller, raw, order, rows) {
-            Ok(ticket) => {
-                self.records.attach(place, reference);
-                Ok(ticket)
-            }
-            Err(raw) => {
-                self.records.take_back();
-                Err(raw)
-            }
-        }
     }
 
     // Takes room for the run that takes an attempt up again, and makes what its end needs. Gives what the book weighs
@@ -375,7 +336,16 @@ impl Book {
     }
 
     // Enters a call under a key whose attempt is parked, which is taken up again.
-    fn resume_by_call(&mut self, caller: u64, raw: Raw, reference: u64) -> Result<Ticket, Raw> {
+    fn resume_by_call(&mut self, caller: u64, raw: Raw, reference: u64) -> Result<Ticket, Raw>
+        requires caller { caller < 2 ^ 62 }
+        requires room { is_full self.old.setup self.old.history (deed.Call raw) ≡ false }
+        requires resuming { IsResuming (rows_of self.old.setup self.old.history) (time_of self.old.setup self.old.history) (length self.old.history + 1) caller (deed_asks self.old.setup (deed.Call raw)) (effect_to self.old.setup self.old.history (call_entry caller raw)) reference }
+        ensures entry { OnOk result (self.new ≡ entered self.old (call_entry caller raw)) }
+        ensures answer { IfOk result (λ ticket. said_to self.old.setup self.old.history (call_entry caller raw) ≡ Waits ticket.order) }
+        ensures ticket { IfOk result (λ ticket. ticket ≡ record { caller = caller; run = length self.old.history + 1; order = ticket.order }) }
+        ensures live { IfOk result (λ ticket. Holds self.new.setup self.new.history caller ticket) }
+        ensures unchanged { IfErr result (λ back. (back ≡ raw) × (self.new ≡ self.old)) }
+    {
         let Some(weight) = weights::weight_with_raw(self.weight, &raw) else {
             return Err(raw);
         };
@@ -386,7 +356,17 @@ impl Book {
     }
 
     // Enters that the attempt that waits longest is taken up again, where one waits.
-    fn resume(&mut self, caller: u64) -> Result<Option<Ticket>, Refused> {
+    fn resume(&mut self, caller: u64) -> Result<Option<Ticket>, Refused>
+        requires caller { caller < 2 ^ 62 }
+        ensures entry { OnOk result (self.new ≡ entered self.old (resume_entry caller)) }
+        ensures none { IfOk result (λ taken. IfNone taken (said_to self.old.setup self.old.history (resume_entry caller) ≡ Silence)) }
+        ensures answer { IfOk result (λ taken. IfSome taken (λ ticket. said_to self.old.setup self.old.history (resume_entry caller) ≡ Waits ticket.order)) }
+        ensures ticket { IfOk result (λ taken. IfSome taken (λ ticket. ticket ≡ record { caller = caller; run = length self.old.history + 1; order = ticket.order })) }
+        ensures live { IfOk result (λ taken. IfSome taken (λ ticket. Holds self.new.setup self.new.history caller ticket)) }
+        ensures unchanged { OnErr result (self.new ≡ self.old) }
+        ensures full { IfErr result (λ refused. (refused ≡ Refused.Full) ↔ IsTrue (is_full self.old.setup self.old.history deed.Resume)) }
+        ensures room { OnOk result (is_full self.old.setup self.old.history deed.Resume ≡ false) }
+    {
         let used = self.entries.len() as u64 + self.live as u64;
         if weights::has_no_two_places(&self.setup, used) {
             return Err(Refused::Full);

@@ -3,9 +3,10 @@ ghost use Rattle.std.specs.Prelude.{◌≡◌, ◌+◌, ◌<◌, ◌^◌, ◌*�
 ghost use Rattle.ph_rows.specs.Weights.{rows_weight};
 ghost use Rattle.ph_items.specs.Weights.{FitsOrNone};
 ghost use Rattle.ph_book.specs.Legal.{is_full_at, length_if, raw_weight};
-ghost use Rattle.ph_book.specs.Called.{saving_weight};
+ghost use Rattle.ph_book.specs.Called.{opening_weight, saving_weight};
 ghost use Rattle.ph_book.specs.declared.acts.Deed.TheVariants as deed;
 
+use crate::calls::Opening;
 use crate::endings::Saving;
 use crate::setup::Setup;
 use ph_base::Bytes;
@@ -80,6 +81,17 @@ pub fn weight_with_body(weight: u64, body: &Bytes, live: usize) -> Option<u64>
         Some(sum)
     } else {
         None
+    }
+}
+
+/// The same, where a record is opened with a reply or none is.
+pub fn weight_with_opening(weight: u64, opening: &Option<Opening>, live: usize) -> Option<u64>
+    requires { weight + 256 * live < 2 ^ 64 }
+    ensures { IfSome result (λ sum. (sum ≡ weight + opening_weight opening.now) × (sum + 256 * live < 2 ^ 64)) }
+{
+    match opening {
+        Some(opening) => weight_with_body(weight, &opening.saved.body, live),
+        None => Some(weight),
     }
 }
 

@@ -97,7 +97,7 @@ after_settles reply past intent flight capture ruling reference = at (reference 
   where
     at : (same : Bool) → (reference == flight.order.reference) ≡ same → ResultAfter reply past (Settles intent flight capture ruling) reference
     at true e = rw e refl
-    at false e = rw e (after_quiet reply past (Settles intent flight capture ruling) reference (rw e refl) (rw e refl))
+    at false e = after_quiet reply past (Settles intent flight capture ruling) reference (rw e refl) (rw e refl) ∙ rw e refl
 
 after_attempt : (reply : ℕ → Reply) (past : List Doing) (doing : Doing) (reference : ℕ) → MayDo past doing
     → has_begun (standing_of past reference) ≡ true → ResultAfter reply past doing reference

@@ -19,8 +19,15 @@ set_there test change (kept ∷ records) now within is = at (test kept) refl (se
         let same : now ≡ kept = rw e at is in
         rw e (ap (λ (k : KeyRecord). change k ∷ records) same)
     at false e rest =
-        let behind : nat_lt (position_or_len test records) (length records) ≡ true = let w = rw e at within in grind (arith, nat_tests, w) in
-        rw e (ap (λ (more : List KeyRecord). kept ∷ more) (rest behind (rw e at is)))
+        let place : position_or_len test (kept ∷ records) ≡ suc (position_or_len test records) = rw e (omega arith) in
+        let inside : nat_lt (suc (position_or_len test records)) (length (kept ∷ records)) ≡ true =
+        subst (λ n. nat_lt n (length (kept ∷ records)) ≡ true) place within in
+        let behind : nat_lt (position_or_len test records) (length records) ≡ true = grind (arith, nat_tests, inside) in
+        let there : now ≡ slice_index_or records (position_or_len test records) now =
+        subst (λ n. now ≡ slice_index_or (kept ∷ records) n now) place is in
+        let changed : slice_set (kept ∷ records) (suc (position_or_len test records)) (change now) ≡ update_first test change (kept ∷ records) =
+        rw e (ap (λ (more : List KeyRecord). kept ∷ more) (rest behind there)) in
+        subst (λ n. slice_set (kept ∷ records) n (change now) ≡ update_first test change (kept ∷ records)) (sym place) changed
 
 -- the record at the first place whose record passes
 pub set_first : (test : KeyRecord → Bool) (change : KeyRecord → KeyRecord) (records : List KeyRecord) (i : ℕ) (now new : KeyRecord)
@@ -52,7 +59,10 @@ update_none test change records none = nothing records (at (nat_lt (position_or_
       where
         by : (passes : Bool) → test kept ≡ passes → (nat_lt (position_or_len test all) (length all) ≡ false → all ≡ update_first test change all)
             → kept ∷ all ≡ update_first test change (kept ∷ all)
-        by true e rest = let w : nat_lt 0 (suc (length all)) ≡ false = rw e at over in absurd (cc)
+        by true e rest = let w : nat_lt 0 (suc (length all)) ≡ false = rw e at over in absurd (grind (arith, nat_tests, w))
         by false e rest =
-            let behind : nat_lt (position_or_len test all) (length all) ≡ false = let w = rw e at over in grind (arith, nat_tests, w) in
+            let place : position_or_len test (kept ∷ all) ≡ suc (position_or_len test all) = rw e (omega arith) in
+            let w : nat_lt (suc (position_or_len test all)) (length (kept ∷ all)) ≡ false =
+            subst (λ n. nat_lt n (length (kept ∷ all)) ≡ false) place over in
+            let behind : nat_lt (position_or_len test all) (length all) ≡ false = grind (arith, nat_tests, w) in
             rw e (ap (λ (more : List KeyRecord). kept ∷ more) (rest behind))

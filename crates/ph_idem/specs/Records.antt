@@ -1,5 +1,5 @@
 -- The records of keys, the newest first, and what a call finds among them.
-use Rattle.std.specs.Prelude.{ℕ, ◌+◌, ◌==◌, ◌&&◌, nat_le, Bool, false, if◌then◌else◌, List, [], ◌∷◌, Option, Some, None, bytes_eq, unwrap_or}
+use Rattle.std.specs.Prelude.{ℕ, ◌+◌, ◌==◌, ◌&&◌, nat_le, Bool, false, if◌then◌else◌, List, [], ◌∷◌, Option, Some, None, bytes_eq, drop, unwrap_or}
 use Rattle.std.specs.List.{find}
 use Rattle.ph_doings.specs.Records.{a_day}
 use Rattle.ph_idem.specs.declared.asked.Asked.{Asked}
@@ -78,6 +78,15 @@ saved_in entry records = reply_if (find (is_entry entry) records)
 abbrev pub update_first : (KeyRecord → Bool) → (KeyRecord → KeyRecord) → List KeyRecord → List KeyRecord
 update_first test change [] = []
 update_first test change (kept ∷ records) = if test kept then change kept ∷ records else kept ∷ update_first test change records
+
+-- the entry of a place opened the newest record
+abbrev pub is_newest : ℕ → List KeyRecord → Bool
+is_newest entry [] = false
+is_newest entry (kept ∷ records) = is_entry entry kept
+
+-- the records without the newest, where the entry of a place opened it
+abbrev pub taken_back : ℕ → List KeyRecord → List KeyRecord
+taken_back entry records = if is_newest entry records then drop 1 records else records
 
 abbrev pub with_reference : ℕ → KeyRecord → KeyRecord
 with_reference reference kept = record kept { reference = Some reference }

@@ -1,7 +1,7 @@
 //! The records of keys.
-ghost use Rattle.std.specs.Prelude.{◌≡◌, ◌∷◌, [], None, drop, option_copied, option_map, OnOk, OnErr};
+ghost use Rattle.std.specs.Prelude.{◌≡◌, ◌∷◌, [], None, option_copied, option_map, OnOk, OnErr};
 ghost use Rattle.std.specs.List.{find, position};
-ghost use Rattle.ph_idem.specs.Records.{found_in, is_attached, is_entry, is_of, opened_record, saved_in, update_first, with_reference, with_result};
+ghost use Rattle.ph_idem.specs.Records.{found_in, is_attached, is_entry, is_newest, is_of, opened_record, saved_in, taken_back, update_first, with_reference, with_result};
 
 use crate::asked::Asked;
 use crate::found::Found;
@@ -69,6 +69,16 @@ fn attached<'a>(records: &'a [KeyRecord], reference: u64) -> Option<&'a KeyRecor
     None
 }
 
+// Whether the entry of a place opened the newest record.
+fn is_newest(records: &[KeyRecord], entry: u64) -> bool
+    ensures { result ≡ is_newest entry records.now }
+{
+    match records.first() {
+        Some(record) => record.entry == entry,
+        None => false,
+    }
+}
+
 impl Records {
     /// No records. It takes no memory.
     pub fn new(alloc: Global) -> Self
@@ -131,11 +141,12 @@ impl Records {
         Ok(())
     }
 
-    /// Takes the newest record back, whose entry isn't entered after all. It takes no memory.
-    pub fn take_back(&mut self)
-        ensures { self.new ≡ drop 1 self.old }
+    /// Takes the newest record back, where the entry of this place opened it, which isn't entered after all. It takes no
+    /// memory.
+    pub fn take_back(&mut self, entry: u64)
+        ensures { self.new ≡ taken_back entry self.old }
     {
-        if !self.records.is_empty() {
+        if is_newest(&self.records, entry) {
             let _record = self.records.remove(0);
         }
     }
