@@ -12,6 +12,7 @@ use Rattle.ph_http.specs.declared.message.Reply.{Reply}
 use Rattle.ph_calls.specs.declared.call.Call.{Call}
 use Rattle.ph_calls.specs.Fit as calls
 use Rattle.ph_idem.specs.declared.asked.Asked.{Asked}
+use Rattle.ph_idem.specs.Laws.{Tells}
 use Rattle.ph_items.specs.Clocks.{clock_limit}
 use Rattle.ph_items.specs.Items.{attempt_in}
 use Rattle.ph_items.specs.Kinds.{kind_of}
@@ -47,7 +48,7 @@ use Rattle.ph_doings.specs.Rows.{MayEnd, shown_of}
 use Rattle.ph_doings.specs.Runs.{Run, NoRun, Flies, live_run, runs_begun, runs_ended}
 use Rattle.ph_doings.specs.Laws.{FirstOf}
 use Rattle.ph_doings.specs.Parks.{first_parked}
-use Rattle.ph_doings.specs.Records.{Found}
+use Rattle.ph_doings.specs.Records.{DoesByFound, Found}
 use Rattle.ph_doings.specs.Records as found
 use Rattle.ph_doings.specs.Standings.{Standing, NotBegun, Stands as StandsAt, standing_of}
 use Rattle.ph_doings.specs.Standings as attempt
@@ -68,7 +69,7 @@ use Rattle.ph_book.specs.declared.judged.Judged.TheVariants.{Refused, Accepted}
 use Rattle.ph_book.specs.Calls.{Keys, Upshot, Rejects, Replays, Makes, Shows, Sets, and_opened, by_found, called_at, carried, is_fresh, key_asked, opens, request_upshot, resumed_by, resumed_from, resumed_outcome}
 use Rattle.ph_book.specs.Keys.{asked_in, request_of}
 use Rattle.ph_book.specs.Entries.{IsWithinClock}
-use Rattle.ph_book.specs.History.{Effect, call_effect, effect_of, ended_effect, finish_effect, outcome_effect, outcome_said, outcome_touch, park_effect, parked_by, parked_from, parked_outcome, resume_effect, ruled_outcome}
+use Rattle.ph_book.specs.History.{Effect, call_effect, deed_asks, effect_of, ended_effect, finish_effect, outcome_effect, outcome_said, outcome_touch, park_effect, parked_by, parked_from, parked_outcome, resume_effect, ruled_outcome, said_briefly}
 use Rattle.ph_book.specs.Replies.{Said, park_reply, ruling_reply}
 use Rattle.ph_book.specs.Runs.{if_own, own_run}
 use Rattle.ph_book.proofs.CallLemmas.{KeepsCall, KeepsJudged, carried_keeps, judged_keeps}
@@ -229,6 +230,11 @@ finish_comes state keys past place caller run ruling (Some flight) stands own =
     (ruled_outcome state.rows state.time place flight.order.reference ruling) stands (ruled_done state past place flight ruling stands may)
     (may.settles capture ruling)
 
+-- what is done is what the outcome says
+pub done_touch : (state : ViewState) (most : ℕ) (touch : Touch) (object : ℕ) (outcome : Outcome) → IsDone state most touch object outcome → outcome_touch outcome ≡ touch
+done_touch state most touch object (Refuses error) done = absurd done
+done_touch state most touch object (Adds does shows_ batch) done = done.0
+
 -- a version of an attempt by which it is in another state
 moved_batch : ViewState → ℕ → Row → Attempt → AttemptState → BatchState
 moved_batch state place row attempt to =
@@ -333,25 +339,38 @@ pub record StandsParked (past : List Doing) (reference : ℕ) : Type 0 where
   pub order : Order
   pub standing : standing_of past reference ≡ StandsAt intent order attempt.Parked
 
+pub parked_named : (past : List Doing) (reference : ℕ) (parked : StandsParked past reference) → parked.order.reference ≡ reference
+parked_named past reference parked = own_order past reference parked.intent parked.order attempt.Parked parked.standing
+
+parked_there : (state : ViewState) (past : List Doing) (reference : ℕ) → Stands state past → (parked : StandsParked past reference)
+    → HasAttempt state.rows reference parked.intent parked.order attempt_state.Parked
+parked_there state past reference stands parked =
+    (past_is_in_rows past state stands.ready.sound.order stands.shown).attempt reference parked.intent parked.order attempt.Parked parked.standing
+
+parked_resumed : (state : ViewState) (past : List Doing) (place reference : ℕ) (stands : Stands state past) (parked : StandsParked past reference)
+    → IsDone state most_rows (Resumes parked.intent parked.order) (parked_there state past reference stands parked).row.object
+    (resumed_outcome state.rows reference (batch_after state place))
+parked_resumed state past place reference stands parked =
+    resumed_done state place reference parked.intent parked.order stands.ready (parked_named past reference parked) (parked_there state past reference stands parked)
+
+-- what it comes to that a parked attempt is taken up again
+pub resumed_touch : (state : ViewState) (past : List Doing) (place reference : ℕ) (stands : Stands state past) (parked : StandsParked past reference)
+    → outcome_touch (resumed_outcome state.rows reference (batch_after state place)) ≡ Resumes parked.intent parked.order
+resumed_touch state past place reference stands parked =
+    done_touch state most_rows (Resumes parked.intent parked.order) (parked_there state past reference stands parked).row.object
+    (resumed_outcome state.rows reference (batch_after state place)) (parked_resumed state past place reference stands parked)
+
 -- it is taken up again, by a call under a key or by itself, as the entry of the next place
 resumed_comes : (state : ViewState) (past : List Doing) (key : Option (List ℕ)) (place caller reference : ℕ) → Stands state past
     → place ≡ suc (length past) → StandsParked past reference
     → Comes state past (outcome_effect key false state.rows state.time place caller (resumed_outcome state.rows reference (batch_after state place)))
-resumed_comes state past key place caller reference stands next parked = at (resumed_outcome state.rows reference (batch_after state place)) done
+resumed_comes state past key place caller reference stands next parked =
+    at (resumed_outcome state.rows reference (batch_after state place)) (parked_resumed state past place reference stands parked)
   where
-    named : parked.order.reference ≡ reference
-    named = own_order past reference parked.intent parked.order attempt.Parked parked.standing
-
-    there : HasAttempt state.rows reference parked.intent parked.order attempt_state.Parked
-    there = (past_is_in_rows past state stands.ready.sound.order stands.shown).attempt reference parked.intent parked.order attempt.Parked parked.standing
-
-    done : IsDone state most_rows (Resumes parked.intent parked.order) there.row.object (resumed_outcome state.rows reference (batch_after state place))
-    done = resumed_done state place reference parked.intent parked.order stands.ready named there
-
     may : MayDo past (doing_of caller place (Resumes parked.intent parked.order))
-    may = (next, ap (standing_of past) named ∙ parked.standing)
+    may = (next, ap (standing_of past) (parked_named past reference parked) ∙ parked.standing)
 
-    at : (outcome : Outcome) → IsDone state most_rows (Resumes parked.intent parked.order) there.row.object outcome
+    at : (outcome : Outcome) → IsDone state most_rows (Resumes parked.intent parked.order) (parked_there state past reference stands parked).row.object outcome
         → Comes state past (outcome_effect key false state.rows state.time place caller outcome)
     at (Refuses error) done = absurd done
     at (Adds touch object batch) done =
@@ -371,10 +390,6 @@ park_comes state past place caller run why (Some flight) stands own =
 -- an end of a live run ends one run, and begins none
 abbrev pub Ends : Doing → Type 0
 Ends does = (runs_ended does ≡ 1) × (runs_begun does ≡ 0)
-
-pub done_touch : (state : ViewState) (most : ℕ) (touch : Touch) (object : ℕ) (outcome : Outcome) → IsDone state most touch object outcome → outcome_touch outcome ≡ touch
-done_touch state most touch object (Refuses error) done = absurd done
-done_touch state most touch object (Adds does shows_ batch) done = done.0
 
 pub finish_ends : (state : ViewState) (keys : Keys) (past : List Doing) (place caller run : ℕ) (ruling : Ruling) (flight : Flight) → Stands state past
     → own_run past caller run ≡ Some flight → Ends (finish_effect keys state.rows state.time place ruling (Some flight)).doing
@@ -455,3 +470,89 @@ effect_comes setup state keys past place caller deed.Resume stands next clock kn
 effect_comes setup state keys past place caller (deed.Tick moment) stands next clock knows =
     let shown = stands.ready.sound.order.clock in
     nothing_comes state past _ false (max state.time moment) stands (omega arith) (omega arith)
+
+-- ---- what is said to calls
+
+-- a call that waits by itself begins the attempt for whose ruling it waits
+pub own_tells : (state : ViewState) (key : Option (List ℕ)) (opens_ : Bool) (place caller : ℕ) (upshot : Upshot) → KeepsCall state upshot
+    → Tells (said_briefly (call_effect key opens_ state.rows state.time place caller upshot).said) (call_effect key opens_ state.rows state.time place caller upshot).doing
+own_tells state key opens_ place caller (Rejects error) keeps = tt
+own_tells state key opens_ place caller (Replays saved) keeps = tt
+own_tells state key opens_ place caller (Makes (Refuses error)) keeps = tt
+own_tells state key opens_ place caller (Makes (Adds Untouched object batch)) keeps = tt
+own_tells state key opens_ place caller (Makes (Adds (Puts intent status) object batch)) keeps = tt
+own_tells state key opens_ place caller (Makes (Adds (Edits intent status) object batch)) keeps = tt
+own_tells state key opens_ place caller (Makes (Adds (Begins cause intent order) object batch)) keeps = refl
+own_tells state key opens_ place caller (Makes (Adds (Resumes intent order) object batch)) keeps = absurd keeps.1
+own_tells state key opens_ place caller (Makes (Adds (Parks intent order) object batch)) keeps = tt
+own_tells state key opens_ place caller (Makes (Adds (Settles intent order capture ruling) object batch)) keeps = tt
+own_tells state key opens_ place caller (Shows doc) keeps = tt
+own_tells state key opens_ place caller (Sets moment) keeps = tt
+
+-- a call under a key does what it finds
+found_does : (state : ViewState) (keys : Keys) (past : List Doing) (place caller : ℕ) (own : Upshot) (asked : Asked) → Stands state past
+    → KnowsParked keys past → (what : Found) → keys.found asked ≡ what
+    → DoesByFound what (call_effect (Some asked.key) (is_fresh what) state.rows state.time place caller
+    (by_found keys state.rows (batch_after state place) own what)).doing
+found_does state keys past place caller own asked stands knows found.Fresh is = tt
+found_does state keys past place caller own asked stands knows found.Differs is = refl
+found_does state keys past place caller own asked stands knows found.Live is = refl
+found_does state keys past place caller own asked stands knows (found.Parked reference) is =
+    let parked : StandsParked past reference = knows asked reference is in
+    record {
+      intent = parked.intent;
+      flight = record { caller = caller; run = place; order = parked.order };
+      doing_is = ap (doing_of caller place) (resumed_touch state past place reference stands parked);
+      reference_is = parked_named past reference parked;
+    }
+found_does state keys past place caller own asked stands knows (found.Saved at) is = refl
+
+request_does : (state : ViewState) (keys : Keys) (past : List Doing) (place caller : ℕ) (judged : Judged) (asked : Asked) → Stands state past
+    → KnowsParked keys past → asked_in judged ≡ Some asked
+    → DoesByFound (keys.found asked) (call_effect (key_asked (asked_in judged)) (opens keys (asked_in judged)) state.rows state.time place caller
+    (request_upshot keys state.rows state.time (batch_after state place) judged)).doing
+request_does state keys past place caller (Refused error) asked stands knows asks = absurd (cc)
+request_does state keys past place caller (Accepted c None) asked stands knows asks = absurd (cc)
+request_does state keys past place caller (Accepted c (Some of)) asked stands knows asks =
+    let same : of ≡ asked = cc in
+    subst (λ (x : Asked). DoesByFound (keys.found x) (call_effect (Some of.key) (is_fresh (keys.found of)) state.rows state.time place caller
+    (by_found keys state.rows (batch_after state place) (carried state.rows state.time c (batch_after state place)) (keys.found of))).doing) same
+    (found_does state keys past place caller (carried state.rows state.time c (batch_after state place)) of stands knows (keys.found of) refl)
+
+-- what a deed does that asks this under a key
+pub deed_does : (setup : Setup) (state : ViewState) (keys : Keys) (past : List Doing) (place caller : ℕ) (d : Deed) (asked : Asked) → Stands state past
+    → KnowsParked keys past → deed_asks setup d ≡ Some asked
+    → DoesByFound (keys.found asked) (effect_of setup keys past state.rows state.time place caller d).doing
+unfolding called_at
+deed_does setup state keys past place caller (deed.Call raw) asked stands knows asks =
+    request_does state keys past place caller (request_of setup.key raw) asked stands knows asks
+deed_does setup state keys past place caller (deed.Finish run ruling) asked stands knows asks = absurd (cc)
+deed_does setup state keys past place caller (deed.Park run why) asked stands knows asks = absurd (cc)
+deed_does setup state keys past place caller deed.Resume asked stands knows asks = absurd (cc)
+deed_does setup state keys past place caller (deed.Tick moment) asked stands knows asks = absurd (cc)
+
+-- where a request finds no record and waits, it begins the attempt for whose ruling it waits
+request_tells : (state : ViewState) (keys : Keys) (past : List Doing) (place caller : ℕ) (judged : Judged) (asked : Asked) → Stands state past
+    → KeepsJudged judged → asked_in judged ≡ Some asked → keys.found asked ≡ found.Fresh
+    → Tells (said_briefly (call_effect (key_asked (asked_in judged)) (opens keys (asked_in judged)) state.rows state.time place caller
+    (request_upshot keys state.rows state.time (batch_after state place) judged)).said)
+    (call_effect (key_asked (asked_in judged)) (opens keys (asked_in judged)) state.rows state.time place caller
+    (request_upshot keys state.rows state.time (batch_after state place) judged)).doing
+request_tells state keys past place caller (Refused error) asked stands keeps asks fresh = absurd (cc)
+request_tells state keys past place caller (Accepted c None) asked stands keeps asks fresh = absurd (cc)
+request_tells state keys past place caller (Accepted c (Some of)) asked stands keeps asks fresh =
+    let same : of ≡ asked = cc in
+    let free : keys.found of ≡ found.Fresh = ap keys.found same ∙ fresh in
+    rw free (own_tells state (Some of.key) true place caller (carried state.rows state.time c (batch_after state place))
+    (carried_keeps state place c stands.ready keeps))
+
+pub deed_tells : (setup : Setup) (state : ViewState) (keys : Keys) (past : List Doing) (place caller : ℕ) (d : Deed) (asked : Asked) → Stands state past
+    → deed_asks setup d ≡ Some asked → keys.found asked ≡ found.Fresh
+    → Tells (said_briefly (effect_of setup keys past state.rows state.time place caller d).said) (effect_of setup keys past state.rows state.time place caller d).doing
+unfolding called_at
+deed_tells setup state keys past place caller (deed.Call raw) asked stands asks fresh =
+    request_tells state keys past place caller (request_of setup.key raw) asked stands (judged_keeps setup.key raw) asks fresh
+deed_tells setup state keys past place caller (deed.Finish run ruling) asked stands asks fresh = absurd (cc)
+deed_tells setup state keys past place caller (deed.Park run why) asked stands asks fresh = absurd (cc)
+deed_tells setup state keys past place caller deed.Resume asked stands asks fresh = absurd (cc)
+deed_tells setup state keys past place caller (deed.Tick moment) asked stands asks fresh = absurd (cc)

@@ -4,6 +4,7 @@ pub mod EffectLemmas
 pub mod KeyLemmas
 pub mod HistoryLemmas
 pub mod StandLemmas
+pub mod KeyLawLemmas
 pub mod LawLemmas
 pub mod StepLemmas
 pub mod StoreLemmas

@@ -109,6 +109,13 @@ used_more setup past caller (deed.Tick moment) stood own room does is counted =
     let none : runs_begun does ≡ 0 = ap runs_begun (sym is) in
     omega (arith, left, none, counted)
 
+-- what an entry comes to that may come
+pub comes_next : (setup : Setup) (past : List Happening) (entry : Entry) → HasStood setup past → IsAllowed setup past entry
+    → Comes (view_after setup past) (doings_after past) (effect_after setup past entry)
+comes_next setup past entry stood allowed =
+    effect_comes setup (view_after setup past) (keys_after setup past) (doings_after past) (length past + 1) entry.caller entry.deed stood.stands
+    (let same = stood.places in omega (arith, same)) allowed.clock (knows_parked setup past)
+
 -- one entry more that may come
 pub stood_more : (setup : Setup) (past : List Happening) (entry : Entry) → setup.entries < 2 ^ 32 → HasStood setup past → IsAllowed setup past entry
     → HasStood setup (and_then setup past entry)
@@ -135,9 +142,7 @@ stood_more setup past entry small stood allowed = record {
     one = let longer : length next ≡ length past + 1 = length-append past (h ∷ []) in omega (arith, longer)
 
     comes : Comes (view_after setup past) (doings_after past) (effect_after setup past entry)
-    comes =
-        effect_comes setup (view_after setup past) (keys_after setup past) (doings_after past) (length past + 1) entry.caller entry.deed stood.stands
-        (let same = stood.places in omega (arith, same)) allowed.clock (knows_parked setup past)
+    comes = comes_next setup past entry stood allowed
 
     lawful : IsLawful (h.doing ∷ doings_after past)
     lawful = (comes.may, stood.stands.lawful)

@@ -180,7 +180,7 @@ not_fresh_attempt past reference (Stands intent order attempt.Live) is = cc
 not_fresh_attempt past reference (Stands intent order attempt.Parked) is = cc
 not_fresh_attempt past reference (Stands intent order (attempt.Settled ruling)) is = cc
 
-not_fresh : (past : List Doing) (place : ℕ) (said : Said) → result_said past place said ≡ Fresh → ⊥
+pub not_fresh : (past : List Doing) (place : ℕ) (said : Said) → result_said past place said ≡ Fresh → ⊥
 not_fresh past place Replies is = cc
 not_fresh past place Silence is = cc
 not_fresh past place (Waits reference) is = not_fresh_attempt past reference (standing_of past reference) is

@@ -82,6 +82,15 @@ last_is opened (turn ∷ past) asked = at turn.asked (last_is opened past asked)
         ∙ ap (λ o. is_over o (time_of opened past)) (sym (all other)))
         old
 
+-- calls of one key find that its last record is over, or that it isn't
+pub over_alike : (opened : ℕ) (past : List (Turn Asked)) (asked other : Asked) (now : ℕ) → has_key asked other ≡ true
+    → is_over (last_opened (has_key asked) (is_like asked) opened past) now ≡ is_over (last_opened (has_key other) (is_like other) opened past) now
+over_alike opened past asked other now same =
+    ap (λ o. is_over o now) (last_is opened past asked)
+    ∙ ap (λ found. is_over (as_opened asked found) now) (same_key asked other same (openings opened past))
+    ∙ over_same asked other (find (of_key other) (openings opened past)) now
+    ∙ ap (λ o. is_over o now) (sym (last_is opened past other))
+
 -- ---- records of openings
 
 abbrev pub kept_if : (ℕ → Reply) → List (Turn Asked) → Option Opening → Option KeyRecord
