@@ -1,13 +1,16 @@
 -- The laws of idempotency keys, over every legal history.
-use Rattle.std.proofs.Common.{◌≡◌, ℕ, suc, ◌+◌, ◌^◌, ◌<◌, ◌≤◌, ◌==◌, ◌++◌, ◌∷◌, nat_le, Bool, true, false, if◌then◌else◌, List, [], length, Option, Some, None, refl, sym, ap, ◌∙◌, subst, append-assoc, arith}
+use Rattle.std.proofs.Common.{◌≡◌, ℕ, suc, ◌+◌, ◌^◌, ◌<◌, ◌≤◌, ◌==◌, ◌++◌, ◌∷◌, nat_le, Bool, true, false, if◌then◌else◌, List, [], length, Option, Some, None, refl, sym, ap, ◌∙◌, subst, append-assoc, length-append, arith}
 use Rattle.std.specs.List.{fold}
 use Rattle.std.proofs.lemmas.Bool.Decides.{nat_tests}
 use Rattle.std.proofs.lemmas.List.Sums.{fold-append}
 use Rattle.ph_doings.specs.Confirmations.{begun_by}
-use Rattle.ph_doings.specs.Doings.{Doing}
+use Rattle.ph_doings.specs.Doings.{Doing, Leaves, Puts, Edits, Begins, Resumes, Parks, Settles}
 use Rattle.ph_doings.specs.Lawful.{MayDo}
 use Rattle.ph_doings.specs.RecordLaws.{OpensRecord}
-use Rattle.ph_doings.specs.Records.{AreLawful, DoesByFound, Found, Fresh, Differs, Live, Parked, Saved, MayTurn, Opened, Never, Opens as OpensAt, Turn, a_day, doings_of, found_in, is_over, last_opened, record_of, result_of, time_of}
+use Rattle.ph_doings.specs.Records.{AreLawful, DoesByFound, Found, Fresh, Differs, Live, Parked, Saved, MayTurn, Opened, Never, Opens as OpensAt, Turn, a_day, doings_of, found_in, is_over, last_opened, record_of, result_of, result_of_attempt, result_said, said_at, settled_at, time_of}
+use Rattle.ph_doings.specs.Records as found
+use Rattle.ph_doings.specs.Standings.{Standing, NotBegun, Stands as StandsAt, standing_of}
+use Rattle.ph_doings.specs.Standings as attempt
 use Rattle.ph_doings.proofs.RecordLemmas as record_laws
 use Rattle.ph_idem.specs.declared.asked.Asked.{Asked}
 use Rattle.ph_idem.specs.Kept.{has_key, is_like, opening_of}
@@ -16,8 +19,10 @@ use Rattle.ph_idem.proofs.FoundLemmas.{over_alike}
 use Rattle.ph_book.specs.declared.setup.Setup.{Setup}
 use Rattle.ph_book.specs.declared.acts.Deed.{Deed}
 use Rattle.ph_book.specs.declared.acts.Entry.{Entry}
-use Rattle.ph_book.specs.History.{Happening, and_then, deed_asks, doings_after, effect_after, effect_to, happening_of, keys_after, past_of, rows_after, said_briefly, time_after, turn_of, turns_after}
+use Rattle.ph_book.specs.History.{Happening, and_then, deed_asks, doings_after, effect_after, effect_to, happening_of, keys_after, past_of, reply_at, rows_after, said_briefly, saids_after, time_after, turn_of, turns_after}
 use Rattle.ph_book.specs.History as history
+use Rattle.ph_book.specs.Replies.{Said}
+use Rattle.ph_idem.proofs.OpenLemmas.{length_doings}
 use Rattle.ph_book.specs.Legal.{AreAllowed, IsAllowed, IsLegal}
 use Rattle.ph_book.proofs.EffectLemmas.{deed_does, deed_tells}
 use Rattle.ph_book.specs.KeyLaws.{KeyAddsNone, RepeatFinds, SavedStays, keys_of, turns_of}
@@ -175,6 +180,81 @@ opens_for setup past entry first asked asks free same = record {
       ∙ fresh_over (turns_after setup past) (time_of setup.opened (turns_after setup past)) _ free;
 }
 
+-- ---- replies of entries
+
+saids_count : (saids : List Said) (past : List Happening)
+    → length (fold (λ (all : List Said) (h : Happening). h.said ∷ all) saids past) ≡ length saids + length past
+saids_count saids [] = omega arith
+saids_count saids (h ∷ past) = let rest = saids_count (h.said ∷ saids) past in omega (arith, rest)
+
+said_count : (past : List Happening) → length (saids_after past) ≡ length past
+said_count past = let all = saids_count [] past in omega (arith, all)
+
+-- what is said later doesn't change what was said to the entry of a place
+reply_stays : (saids : List Said) (past : List Happening) (place : ℕ) → place ≤ length saids
+    → reply_at (fold (λ (all : List Said) (h : Happening). h.said ∷ all) saids past) place ≡ reply_at saids place
+reply_stays saids [] place le = refl
+reply_stays saids (h ∷ past) place le =
+    let apart : (place == suc (length saids)) ≡ false = grind (arith, nat_tests, le) in
+    reply_stays (h.said ∷ saids) past place (omega (arith, le)) ∙ rw apart refl
+
+-- what happened and happens is said one after the other
+said_from : (setup : Setup) (past : List Happening) (entries : List Entry) (place : ℕ) → place ≤ length past
+    → reply_at (saids_after (fold (and_then setup) past entries)) place ≡ reply_at (saids_after past) place
+said_from setup past [] place le = refl
+said_from setup past (entry ∷ entries) place le =
+    let h : Happening = happening_of setup past entry in
+    let longer : length (and_then setup past entry) ≡ length past + 1 = length-append past (h ∷ []) in
+    let all : saids_after (and_then setup past entry) ≡ h.said ∷ saids_after past = fold-append (λ (all : List Said) (x : Happening). x.said ∷ all) [] past (h ∷ []) in
+    let count = said_count past in
+    let apart : (place == suc (length (saids_after past))) ≡ false = grind (arith, nat_tests, le, count) in
+    said_from setup (and_then setup past entry) entries place (omega (arith, le, longer))
+    ∙ ap (λ (saids : List Said). reply_at saids place) all ∙ rw apart refl
+
+-- an attempt was settled by a doing that is there
+settled_within : (past : List Doing) (reference : ℕ) → settled_at past reference ≤ length past
+settled_within [] reference = omega arith
+settled_within (Leaves ∷ past) reference = let old = settled_within past reference in omega (arith, old)
+settled_within (Puts intent status ∷ past) reference = let old = settled_within past reference in omega (arith, old)
+settled_within (Edits intent status ∷ past) reference = let old = settled_within past reference in omega (arith, old)
+settled_within (Begins cause intent flight ∷ past) reference = let old = settled_within past reference in omega (arith, old)
+settled_within (Resumes intent flight ∷ past) reference = let old = settled_within past reference in omega (arith, old)
+settled_within (Parks intent flight ∷ past) reference = let old = settled_within past reference in omega (arith, old)
+settled_within (Settles intent flight capture ruling ∷ past) reference = at (reference == flight.order.reference) (settled_within past reference)
+  where
+    at : (same : Bool) → settled_at past reference ≤ length past → (if same then suc (length past) else settled_at past reference) ≤ suc (length past)
+    at true old = omega arith
+    at false old = omega (arith, old)
+
+attempt_within : (past : List Doing) (reference saved : ℕ) (standing : Standing) → result_of_attempt past reference standing ≡ Saved saved → saved ≤ length past
+attempt_within past reference saved NotBegun h = absurd (cc)
+attempt_within past reference saved (StandsAt intent order attempt.Live) h = absurd (cc)
+attempt_within past reference saved (StandsAt intent order attempt.Parked) h = absurd (cc)
+attempt_within past reference saved (StandsAt intent order (attempt.Settled ruling)) h =
+    let same : settled_at past reference ≡ saved = cc in
+    subst (λ n. n ≤ length past) same (settled_within past reference)
+
+-- a saved reply is that of an entry that is there
+saved_within : (past : List (Turn Asked)) (place saved : ℕ) → result_of past place ≡ Saved saved → saved ≤ length past
+saved_within past place saved h = at (said_at past place) refl h
+  where
+    at : (said : found.Said) → said_at past place ≡ said → result_said (doings_of past) place said ≡ Saved saved → saved ≤ length past
+    at found.Replies e h =
+        let same : place ≡ saved = cc in
+        within (nat_le place (length past)) refl same e
+      where
+        within : (there : Bool) → nat_le place (length past) ≡ there → place ≡ saved → said_at past place ≡ found.Replies → saved ≤ length past
+        within true t same e = grind (arith, nat_tests, t, same)
+        within false t same e =
+            let none : said_at past place ≡ found.Silence = record_laws.said_within past place (grind (arith, nat_tests, t)) in
+            let wrong : found.Replies ≡ found.Silence = sym e ∙ none in
+            absurd (cc)
+    at found.Silence e h = absurd (cc)
+    at (found.Waits reference) e h =
+        let le = attempt_within (doings_of past) reference saved (standing_of (doings_of past) reference) h in
+        let count = length_doings past in
+        omega (arith, le, count)
+
 -- ---- the laws
 
 pub repeat_finds : (setup : Setup) → setup.entries < 2 ^ 32 → RepeatFinds setup
@@ -208,7 +288,9 @@ saved_stays setup small before later place saved legal is =
     record {
       result = ap (λ (turns : List (Turn Asked)). result_of turns place) apart.turns_are
           ∙ record_laws.saved_stays has_key is_like setup.opened older apart.more place saved lawful is;
-      reply = ?;
+      reply = ap (λ (past : List Happening). reply_at (saids_after past) saved) (past_append setup before later)
+          ∙ said_from setup (past_of setup before) later saved
+          (let le = saved_within older place saved is in let count = turn_count setup (past_of setup before) in omega (arith, le, count));
     }
 
 pub key_adds_none : (setup : Setup) → setup.entries < 2 ^ 32 → KeyAddsNone setup

@@ -367,8 +367,8 @@ impl Book {
         ensures full { IfErr result (λ refused. (refused ≡ Refused.Full) ↔ IsTrue (is_full self.old.setup self.old.history deed.Resume)) }
         ensures room { OnOk result (is_full self.old.setup self.old.history deed.Resume ≡ false) }
     {
-        let used = self.entries.len() as u64 + self.live as u64;
-        if weights::has_no_two_places(&self.setup, used) {
+        let places = self.entries.len() as u64 + self.live as u64;
+        if weights::has_no_two_places(&self.setup, places) {
             return Err(Refused::Full);
         }
         match self.attempts.parked() {

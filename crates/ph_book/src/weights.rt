@@ -150,7 +150,7 @@ pub fn has_no_two_places(setup: &Setup, used: u64) -> bool
     requires { used < 2 ^ 63 }
     ensures { result ≡ nat_lt setup.now.entries (used + 2) }
 {
-    (setup.entries as u64) < used + 2
+    used + 2 > setup.entries as u64
 }
 
 // Whether a weight and that of a request are above a limit.

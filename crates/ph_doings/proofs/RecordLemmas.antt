@@ -38,7 +38,7 @@ said_stays past (turn ∷ later) place le =
     rw apart (said_stays past later place le)
 
 -- nothing was said to an entry that isn't there
-said_within : {A : Type 0} (past : List (Turn A)) (place : ℕ) → length past < place → said_at past place ≡ Silence
+pub said_within : {A : Type 0} (past : List (Turn A)) (place : ℕ) → length past < place → said_at past place ≡ Silence
 said_within [] place lt = refl
 said_within (turn ∷ past) place lt =
     let apart : (place == suc (length past)) ≡ false = grind (arith, nat_tests) in
