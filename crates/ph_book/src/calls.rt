@@ -17,7 +17,7 @@ ghost use Rattle.ph_book.specs.Keys.{asked_in, request_of};
 ghost use Rattle.ph_book.specs.Replies.{Replies, Waits, doc_reply, error_reply, replayed_reply, shown_reply};
 
 use crate::endings::is_parked;
-use crate::judged::{Judged, judged};
+use crate::judged::{Judged, judge};
 use crate::replies::{doc_reply, error_reply, replayed_reply, shown_reply};
 use crate::store::Store;
 use ph_base::{Bytes, Kind, NoMemory};
@@ -209,7 +209,7 @@ fn carry(alloc: Global, store: &Store, call: &Call, batch: &mut Batch) -> Result
 }
 
 // The record that a call opens to which this is replied, where it opens one.
-fn opening(alloc: Global, asked: Option<Asked>, reply: &Reply) -> Result<Option<Opening>, NoMemory>
+fn opened(alloc: Global, asked: Option<Asked>, reply: &Reply) -> Result<Option<Opening>, NoMemory>
     ensures { IfOk result (λ opening. opening ≡ opening_of asked reply.now) }
 {
     match asked {
@@ -248,7 +248,7 @@ fn shown(
 {
     let reply = shown_reply(alloc, store, object, &batch)?;
     let rows = batch.into_rows(alloc, key_in(&asked))?;
-    let opening = opening(alloc, asked, &reply)?;
+    let opening = opened(alloc, asked, &reply)?;
     Ok(Called::Answered(reply, rows, store.time(), opening))
 }
 
@@ -278,7 +278,7 @@ fn answered(
         → effect.rows ≡ [] → effect.now ≡ now → IfOk result (λ called. IsCalled rows time place caller of asked effect called) }
 {
     let reply = doc_reply(alloc, doc)?;
-    let opening = opening(alloc, asked, &reply)?;
+    let opening = opened(alloc, asked, &reply)?;
     Ok(Called::Answered(reply, Vec::new(alloc), now, opening))
 }
 
@@ -293,7 +293,7 @@ fn refused(
         → effect.rows ≡ [] → effect.now ≡ now → IfOk result (λ called. IsCalled rows time place caller of asked effect called) }
 {
     let reply = error_reply(alloc, error, None)?;
-    let opening = opening(alloc, asked, &reply)?;
+    let opening = opened(alloc, asked, &reply)?;
     Ok(Called::Answered(reply, Vec::new(alloc), now, opening))
 }
 
@@ -374,7 +374,7 @@ pub fn called_by(
     ensures { (setup : Setup) (keys : Keys) (caller : ℕ) → setup.key ≡ key.now → ServeKeys keys store.now.rows store.now.time records.now → IfOk result (λ called. IsCalled store.now.rows store.now.time place caller (asked_in (request_of key.now raw.now)) (asked_if (opens keys (asked_in (request_of key.now raw.now))) (asked_in (request_of key.now raw.now)))
         (request_effect setup keys store.now.rows store.now.time place caller raw.now (asked_in (request_of key.now raw.now))) called) }
 {
-    match judged(alloc, key, raw)? {
+    match judge(alloc, key, raw)? {
         Judged::Refused(error) => refused(alloc, &error, store.time(), None),
         Judged::Accepted(call, None) => made(alloc, store, place, &call, None),
         Judged::Accepted(call, Some(asked)) => {

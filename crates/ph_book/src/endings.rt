@@ -38,7 +38,7 @@ pub struct Ending {
 }
 
 // What is saved of a reply to a ruling, where a call under a key waits for it.
-fn saving(
+fn saved(
     alloc: Global,
     record: Option<&KeyRecord>,
     reply: &Reply,
@@ -84,7 +84,7 @@ pub fn settled(
     let reply = settled_reply(alloc, store, ruling, object, &batch)?;
     let record = records.waiting(attempt);
     let rows = batch.into_rows(alloc, key_in(record))?;
-    let saving = saving(alloc, record, &reply)?;
+    let saving = saved(alloc, record, &reply)?;
     Ok(Ending {
         reply,
         rows,

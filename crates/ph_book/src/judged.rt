@@ -133,7 +133,7 @@ fn read(alloc: Global, raw: &Raw) -> Result<Judged, NoMemory>
 /// What the steps of a request before its own make of it, where this is the key of the setup: its credentials, its
 /// account, its path, its form, its parameters and its idempotency key are looked at in this order.
 #[tactic(auto, unfolding(crate::specs::Keys::request_of))]
-pub fn judged(alloc: Global, key: &Bytes, raw: &Raw) -> Result<Judged, NoMemory>
+pub fn judge(alloc: Global, key: &Bytes, raw: &Raw) -> Result<Judged, NoMemory>
     ensures { IfOk result (λ judged. judged ≡ spec.request_of key.now raw.now) }
 {
     if !is_key(key, &raw.auth) {

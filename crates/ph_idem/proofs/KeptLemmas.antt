@@ -96,7 +96,9 @@ after_settles : (reply : ℕ → Reply) (past : List Doing) (intent : ℕ) (flig
 after_settles reply past intent flight capture ruling reference = at (reference == flight.order.reference) refl
   where
     at : (same : Bool) → (reference == flight.order.reference) ≡ same → ResultAfter reply past (Settles intent flight capture ruling) reference
-    at true e = rw e refl
+    at true e =
+        let placed : (if reference == flight.order.reference then suc (length past) else settled_at past reference) ≡ suc (length past) = rw e refl in
+        rw e (ap (λ n. Some (reply n)) placed)
     at false e = after_quiet reply past (Settles intent flight capture ruling) reference (rw e refl) (rw e refl) ∙ rw e refl
 
 after_attempt : (reply : ℕ → Reply) (past : List Doing) (doing : Doing) (reference : ℕ) → MayDo past doing
