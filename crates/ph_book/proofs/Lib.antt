@@ -15,3 +15,4 @@ pub mod OwnRunLemmas
 pub mod GrowthLemmas
 pub mod HostLemmas
 pub mod ObjectLemmas
+pub mod RunLemmas
