@@ -5,6 +5,7 @@ pub mod KeyLemmas
 pub mod HistoryLemmas
 pub mod StandLemmas
 pub mod KeyLawLemmas
+pub mod ServeLemmas
 pub mod LawLemmas
 pub mod StepLemmas
 pub mod StoreLemmas
