@@ -104,7 +104,7 @@ turn_told setup past entry stood = at (deed_asks setup entry.deed) refl
     at (Some asked) asks =
         over asked asks (is_over (last_opened (has_key asked) (is_like asked) setup.opened (turns_after setup past)) (time_of setup.opened (turns_after setup past))) refl
 
-turned_more : (setup : Setup) (past : List Happening) (entry : Entry) → HasStood setup past → IsAllowed setup past entry → HasTurned setup past
+pub turned_more : (setup : Setup) (past : List Happening) (entry : Entry) → HasStood setup past → IsAllowed setup past entry → HasTurned setup past
     → HasTurned setup (and_then setup past entry)
 turned_more setup past entry stood allowed turned =
     let h : Happening = happening_of setup past entry in
@@ -199,7 +199,7 @@ reply_stays saids (h ∷ past) place le =
     reply_stays (h.said ∷ saids) past place (omega (arith, le)) ∙ rw apart refl
 
 -- what happened and happens is said one after the other
-said_from : (setup : Setup) (past : List Happening) (entries : List Entry) (place : ℕ) → place ≤ length past
+pub said_from : (setup : Setup) (past : List Happening) (entries : List Entry) (place : ℕ) → place ≤ length past
     → reply_at (saids_after (fold (and_then setup) past entries)) place ≡ reply_at (saids_after past) place
 said_from setup past [] place le = refl
 said_from setup past (entry ∷ entries) place le =
@@ -235,7 +235,7 @@ attempt_within past reference saved (StandsAt intent order (attempt.Settled ruli
     subst (λ n. n ≤ length past) same (settled_within past reference)
 
 -- a saved reply is that of an entry that is there
-saved_within : (past : List (Turn Asked)) (place saved : ℕ) → result_of past place ≡ Saved saved → saved ≤ length past
+pub saved_within : (past : List (Turn Asked)) (place saved : ℕ) → result_of past place ≡ Saved saved → saved ≤ length past
 saved_within past place saved h = at (said_at past place) refl h
   where
     at : (said : found.Said) → said_at past place ≡ said → result_said (doings_of past) place said ≡ Saved saved → saved ≤ length past

@@ -6,6 +6,7 @@ pub mod HistoryLemmas
 pub mod StandLemmas
 pub mod KeyLawLemmas
 pub mod ServeLemmas
+pub mod RecordLemmas
 pub mod LawLemmas
 pub mod StepLemmas
 pub mod StoreLemmas
