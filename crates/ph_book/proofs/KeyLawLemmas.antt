@@ -56,7 +56,6 @@ over_fresh : (past : List (Turn Asked)) (now : ℕ) (last : Opened) → is_over 
 over_fresh past now Never over = refl
 over_fresh past now (OpensAt place same moment) over = rw over refl
 
-
 fresh_over : (past : List (Turn Asked)) (now : ℕ) (last : Opened) → found_in past now last ≡ Fresh → is_over last now ≡ true
 fresh_over past now Never fresh = refl
 fresh_over past now (OpensAt place same moment) fresh = at (nat_le (moment + a_day) now) refl same fresh

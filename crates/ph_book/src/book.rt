@@ -298,7 +298,13 @@ impl Book {
             Ok(()) => {}
             Err(NoMemory) => return Err(raw),
         }
-        match open(&mut self.records, asked, run, self.store.time(), order.reference) {
+        match open(
+            &mut self.records,
+            asked,
+            run,
+            self.store.time(),
+            order.reference,
+        ) {
             Ok(()) => {}
             Err(NoMemory) => return Err(raw),
         }
@@ -413,7 +419,11 @@ impl Book {
         let live = one_less(self.live);
         let place = self.entries.len() as u64 + 1;
         let attempt = ticket.order().reference;
-        let Ending { reply, rows, saving } = match settled(
+        let Ending {
+            reply,
+            rows,
+            saving,
+        } = match settled(
             self.alloc,
             &self.store,
             &self.records,

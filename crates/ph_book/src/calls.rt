@@ -262,12 +262,7 @@ fn waiting(
 }
 
 // A call that shows a document, and leaves this time.
-fn answered(
-    alloc: Global,
-    doc: &Doc,
-    now: u64,
-    asked: Option<Asked>,
-) -> Result<Called, NoMemory>
+fn answered(alloc: Global, doc: &Doc, now: u64, asked: Option<Asked>) -> Result<Called, NoMemory>
     ensures { (rows : List Row) (time place caller : ℕ) (of : Option Asked) (effect : Effect) → effect.said ≡ Replies (doc_reply doc.now) → effect.saves ≡ is_some asked
         → effect.rows ≡ [] → effect.now ≡ now → IfOk result (λ called. IsCalled rows time place caller of asked effect called) }
 {
@@ -371,8 +366,6 @@ pub fn called_by(
     match judge(alloc, key, raw)? {
         Judged::Refused(error) => refused(alloc, &error, store.time(), None),
         Judged::Accepted(call, None) => made(alloc, store, place, &call, None),
-        Judged::Accepted(call, Some(asked)) => {
-            keyed(alloc, store, records, place, &call, asked)
-        }
+        Judged::Accepted(call, Some(asked)) => { keyed(alloc, store, records, place, &call, asked) }
     }
 }

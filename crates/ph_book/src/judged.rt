@@ -60,7 +60,13 @@ fn key_given(key: &Option<Bytes>) -> Option<&Bytes>
     ensures { option_copied result ≡ spec.key_given key.now }
 {
     match key {
-        Some(key) => { if key.as_slice().is_empty() { None } else { Some(key) } }
+        Some(key) => {
+            if key.as_slice().is_empty() {
+                None
+            } else {
+                Some(key)
+            }
+        }
         None => None,
     }
 }
