@@ -296,25 +296,29 @@ unfolding is_full
 park_room setup history run why = refl
 
 -- what a book keeps after the end of a run, which makes these rows and this step
-end_book : (setup : Setup) (history : List Entry) (rows : List Row) (time weight : ℕ) (attempts : List flights.Attempt) (records : List KeyRecord) (live live' : ℕ) (entry : Entry) (new : List Row) (does : Doing) (step : Step) (now : ℕ)
+end_book : (setup : Setup) (history : List Entry) (rows : List Row) (time weight : ℕ) (attempts : List flights.Attempt) (records : List KeyRecord) (live live' : ℕ) (entry : Entry) (new : List Row) (does : Doing) (step : Step) (now saved : ℕ) (kept : List KeyRecord)
     → IsBook setup history rows time weight attempts records live → IsAllowed setup (past_of setup history) entry → (effect_to setup history entry).rows ≡ new
     → (effect_to setup history entry).doing ≡ does → (effect_to setup history entry).now ≡ now → step_of does ≡ Some step
     → (runs_ended does ≡ 1) × (runs_begun does ≡ 0) → live' + 1 ≡ live
-    → IsBook setup (history ++ entry ∷ []) (rows ++ new) now ((weight + deed_weight entry.deed) + rows_weight new) (after attempts step) live'
-end_book setup history rows time weight attempts records live live' entry new does step now b allowed made done timed stepped ends fewer =
+    → saved_weight (effect_to setup history entry).saves (effect_to setup history entry).said ≡ saved
+    → records_of setup (history ++ entry ∷ []) ≡ kept → list_all is_saved_well kept ≡ true
+    → IsBook setup (history ++ entry ∷ []) (rows ++ new) now ((weight + (deed_weight entry.deed + saved)) + rows_weight new) (after attempts step) kept live'
+end_book setup history rows time weight attempts records live live' entry new does step now saved kept b allowed made done timed stepped ends fewer saves keeps well =
     let comes = comes_of setup history rows time weight attempts records live entry b allowed.clock in
     let stands = stands_of setup history rows time weight attempts records live b in
     let law = runs_are_counted (doings_of setup history) does (subst (λ (d : Doing). MayDo (doings_of setup history) d) done comes.may, stands.lawful) in
     let live_is = b.live_is in
-    subst (λ (s : Option Step). IsBook setup (history ++ entry ∷ []) (rows ++ new) now ((weight + deed_weight entry.deed) + rows_weight new) (after_step attempts s) live') stepped
-    (book_more setup history rows time weight attempts records live entry new does now live' b allowed made done timed (omega (arith, law, live_is, fewer, ends.0, ends.1)))
+    subst (λ (s : Option Step). IsBook setup (history ++ entry ∷ []) (rows ++ new) now ((weight + (deed_weight entry.deed + saved)) + rows_weight new) (after_step attempts s) kept live') stepped
+    (book_more setup history rows time weight attempts records live entry new does now saved live' kept b allowed made done timed saves (omega (arith, law, live_is, fewer, ends.0, ends.1)) keeps well)
 
 -- after a ruling that makes these rows
-pub finish_book : (old : BookState) (setup : Setup) (history : List Entry) (rows : List Row) (time weight : ℕ) (attempts : List flights.Attempt) (records : List KeyRecord) (live live' place caller : ℕ) (ticket : Flight) (ruling : Ruling) (new : List Row)
+pub finish_book : (old : BookState) (setup : Setup) (history : List Entry) (rows : List Row) (time weight : ℕ) (attempts : List flights.Attempt) (records : List KeyRecord) (live live' place caller : ℕ) (ticket : Flight) (ruling : Ruling) (new : List Row) (saved : ℕ) (kept : List KeyRecord)
     → record { setup = setup; history = history } ≡ old → IsBook setup history rows time weight attempts records live → Holds old.setup old.history caller ticket
     → caller < 2 ^ 62 → place ≡ length history + 1 → (finish_effect (known setup history) rows time place ruling (Some ticket)).rows ≡ new → live' + 1 ≡ live
-    → IsBook setup (history ++ finish_entry caller ticket ruling ∷ []) (rows ++ new) time ((weight + 0) + rows_weight new) (after attempts (Settles ticket)) live'
-finish_book old setup history rows time weight attempts records live live' place caller ticket ruling new is b holds below at made fewer =
+    → saved_weight (effect_to setup history (finish_entry caller ticket ruling)).saves (effect_to setup history (finish_entry caller ticket ruling)).said ≡ saved
+    → records_of setup (history ++ finish_entry caller ticket ruling ∷ []) ≡ kept → list_all is_saved_well kept ≡ true
+    → IsBook setup (history ++ finish_entry caller ticket ruling ∷ []) (rows ++ new) time ((weight + (0 + saved)) + rows_weight new) (after attempts (Settles ticket)) kept live'
+finish_book old setup history rows time weight attempts records live live' place caller ticket ruling new saved kept is b holds below at made fewer saves keeps well =
     let here : BookState = record { setup = setup; history = history } in
     let own = held_here old setup history caller ticket is holds in
     let holds_here : Holds setup history caller ticket = subst (λ (x : BookState). Holds x.setup x.history caller ticket) (sym is) holds in
@@ -326,11 +330,11 @@ finish_book old setup history rows time weight attempts records live live' place
     let touch_is : outcome_touch (ruled_outcome rows time place ticket.order.reference ruling) ≡ touch.Settles may.intent ticket.order capture ruling =
     ap (λ (p : List Row × ℕ). outcome_touch (ruled_outcome p.0 p.1 place ticket.order.reference ruling)) (λ i. (b.rows_are i, b.time_is i))
     ∙ done_touch (view_of setup history) most_rows _ may.intent _ (ruled_done (view_of setup history) (doings_of setup history) place ticket ruling stands may) in
-    end_book setup history rows time weight attempts records live live' (finish_entry caller ticket ruling) new (doing.Settles may.intent ticket capture ruling) (Settles ticket) time b
+    end_book setup history rows time weight attempts records live live' (finish_entry caller ticket ruling) new (doing.Settles may.intent ticket capture ruling) (Settles ticket) time saved kept b
     (may_come setup history caller (deed.Finish ticket.run ruling) below tt (ticket, own) (finish_room setup history ticket.run ruling))
     (ap (λ (effect : Effect). effect.rows) comes ∙ made)
     (ap (λ (effect : Effect). effect.doing) comes ∙ ap (doing_of ticket.caller ticket.run) touch_is)
-    (ap (λ (effect : Effect). effect.now) comes) refl (refl, refl) fewer
+    (ap (λ (effect : Effect). effect.now) comes) refl (refl, refl) fewer saves keeps well
 
 -- the row of a park has no texts, and is one at most
 by_weight : (count now place : ℕ) (row : Row) (attempt : Option _) → let made = outcome_rows None (parked_by row (empty_batch count now place) attempt) in
@@ -348,11 +352,12 @@ pub parked_weight : (rows : List Row) (now place attempt : ℕ) → let made = o
 parked_weight rows now place attempt = from_weight (length rows) now place (latest_of attempt rows)
 
 -- after a park that makes these rows
-pub park_book : (old : BookState) (setup : Setup) (history : List Entry) (rows : List Row) (time weight : ℕ) (attempts : List flights.Attempt) (records : List KeyRecord) (live live' place caller : ℕ) (ticket : Flight) (why : Why) (new : List Row)
+pub park_book : (old : BookState) (setup : Setup) (history : List Entry) (rows : List Row) (time weight : ℕ) (attempts : List flights.Attempt) (records : List KeyRecord) (live live' place caller : ℕ) (ticket : Flight) (why : Why) (new : List Row) (kept : List KeyRecord)
     → record { setup = setup; history = history } ≡ old → IsBook setup history rows time weight attempts records live → Holds old.setup old.history caller ticket
     → caller < 2 ^ 62 → place ≡ length history + 1 → (park_effect rows time place why (Some ticket)).rows ≡ new → live' + 1 ≡ live
-    → IsBook setup (history ++ park_entry caller ticket why ∷ []) (rows ++ new) time ((weight + 0) + rows_weight new) (after attempts (Parks ticket)) live'
-park_book old setup history rows time weight attempts records live live' place caller ticket why new is b holds below at made fewer =
+    → records_of setup (history ++ park_entry caller ticket why ∷ []) ≡ kept → list_all is_saved_well kept ≡ true
+    → IsBook setup (history ++ park_entry caller ticket why ∷ []) (rows ++ new) time ((weight + (0 + 0)) + rows_weight new) (after attempts (Parks ticket)) kept live'
+park_book old setup history rows time weight attempts records live live' place caller ticket why new kept is b holds below at made fewer keeps well =
     let here : BookState = record { setup = setup; history = history } in
     let own = held_here old setup history caller ticket is holds in
     let holds_here : Holds setup history caller ticket = subst (λ (x : BookState). Holds x.setup x.history caller ticket) (sym is) holds in
@@ -363,11 +368,12 @@ park_book old setup history rows time weight attempts records live live' place c
     let touch_is : outcome_touch (parked_outcome rows time place ticket.order.reference) ≡ touch.Parks may.intent ticket.order =
     ap (λ (p : List Row × ℕ). outcome_touch (parked_outcome p.0 p.1 place ticket.order.reference)) (λ i. (b.rows_are i, b.time_is i))
     ∙ done_touch (view_of setup history) most_rows _ 0 _ (parked_done (view_of setup history) place may.intent ticket.order stands.ready may.attempt) in
-    end_book setup history rows time weight attempts records live live' (park_entry caller ticket why) new (doing.Parks may.intent ticket) (Parks ticket) time b
+    end_book setup history rows time weight attempts records live live' (park_entry caller ticket why) new (doing.Parks may.intent ticket) (Parks ticket) time 0 kept b
     (may_come setup history caller (deed.Park ticket.run why) below tt (ticket, own) (park_room setup history ticket.run why))
     (ap (λ (effect : Effect). effect.rows) comes ∙ made)
     (ap (λ (effect : Effect). effect.doing) comes ∙ ap (doing_of ticket.caller ticket.run) touch_is)
     (ap (λ (effect : Effect). effect.now) comes) refl (refl, refl) fewer
+    (ap (λ (effect : Effect). saved_weight effect.saves effect.said) comes) keeps well
 
 -- ---- the clock
 
@@ -385,17 +391,19 @@ unfolding effect_to
 tick_said setup history caller moment = refl
 
 -- what a book keeps after a moment that has room
-pub tick_book : (old : BookState) (setup : Setup) (history : List Entry) (rows : List Row) (time weight : ℕ) (attempts : List flights.Attempt) (records : List KeyRecord) (live caller moment : ℕ)
+pub tick_book : (old : BookState) (setup : Setup) (history : List Entry) (rows : List Row) (time weight : ℕ) (attempts : List flights.Attempt) (records : List KeyRecord) (live caller moment : ℕ) (kept : List KeyRecord)
     → record { setup = setup; history = history } ≡ old → IsBook setup history rows time weight attempts records live → caller < 2 ^ 62 → moment ≤ clock_limit
     → is_full old.setup old.history (deed.Tick moment) ≡ false
-    → IsBook setup (history ++ tick_entry caller moment ∷ []) (rows ++ []) (max time moment) ((weight + 0) + 0) attempts live
-tick_book old setup history rows time weight attempts records live caller moment is b below clock room =
+    → records_of setup (history ++ tick_entry caller moment ∷ []) ≡ kept → list_all is_saved_well kept ≡ true
+    → IsBook setup (history ++ tick_entry caller moment ∷ []) (rows ++ []) (max time moment) ((weight + (0 + 0)) + 0) attempts kept live
+tick_book old setup history rows time weight attempts records live caller moment kept is b below clock room keeps well =
     let here : BookState = record { setup = setup; history = history } in
     let room_here : is_full setup history (deed.Tick moment) ≡ false = subst (λ (x : BookState). is_full x.setup x.history (deed.Tick moment) ≡ false) (sym is) room in
     let comes : effect_to setup history (tick_entry caller moment) ≡ tick_effect time moment =
     tick_is here setup history rows time weight attempts records live caller moment refl b in
     let law = runs_are_counted (doings_of setup history) Leaves (tt, (stands_of setup history rows time weight attempts records live b).lawful) in
     let live_is = b.live_is in
-    book_more setup history rows time weight attempts records live (tick_entry caller moment) [] Leaves (max time moment) live b
+    book_more setup history rows time weight attempts records live (tick_entry caller moment) [] Leaves (max time moment) 0 live kept b
     (may_come setup history caller (deed.Tick moment) below clock tt room_here)
-    (ap (λ (effect : Effect). effect.rows) comes) (ap (λ (effect : Effect). effect.doing) comes) (ap (λ (effect : Effect). effect.now) comes) (omega (arith, law, live_is))
+    (ap (λ (effect : Effect). effect.rows) comes) (ap (λ (effect : Effect). effect.doing) comes) (ap (λ (effect : Effect). effect.now) comes)
+    (ap (λ (effect : Effect). saved_weight effect.saves effect.said) comes) (omega (arith, law, live_is)) keeps well
