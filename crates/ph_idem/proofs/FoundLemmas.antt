@@ -44,6 +44,7 @@ same_key asked other same all =
     account_is : (one two : Bool) → (other.account == asked.account) ≡ one → (one && two) ≡ true → other.account ≡ asked.account
     account_is true two e both = grind (arith, nat_tests, e)
     account_is false two e both = absurd (cc)
+
     key_is : (one two : Bool) → bytes_eq other.key asked.key ≡ two → (one && two) ≡ true → other.key ≡ asked.key
     key_is true true e both = (bytes_eq-Decides other.key asked.key).0 e
     key_is true false e both = absurd (cc)
@@ -128,6 +129,7 @@ descend opened (turn ∷ past) = at turn.asked (descend opened past)
         ((if fresh then (record { asked = asked; place = suc (length past); moment = time_of opened past }) ∷ [] else []) ++ openings opened past)
     over asked true down = (omega arith, down)
     over asked false down = lower (suc (length past)) (suc (suc (length past))) (openings opened past) (omega arith) down
+
     at : (asked : Option Asked) → Descend (suc (length past)) (openings opened past)
         → Descend (suc (suc (length past))) (opening_of opened past asked ++ openings opened past)
     at None down = lower (suc (length past)) (suc (suc (length past))) (openings opened past) (omega arith) down

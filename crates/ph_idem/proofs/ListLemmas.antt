@@ -13,7 +13,7 @@ set_there test change (kept ∷ records) now within is = at (test kept) refl (se
   where
     at : (passes : Bool) → test kept ≡ passes
         → (nat_lt (position_or_len test records) (length records) ≡ true → now ≡ slice_index_or records (position_or_len test records) now
-            → slice_set records (position_or_len test records) (change now) ≡ update_first test change records)
+        → slice_set records (position_or_len test records) (change now) ≡ update_first test change records)
         → slice_set (kept ∷ records) (position_or_len test (kept ∷ records)) (change now) ≡ update_first test change (kept ∷ records)
     at true e rest =
         let same : now ≡ kept = rw e at is in
@@ -53,6 +53,7 @@ update_none test change records none = nothing records (at (nat_lt (position_or_
         → nat_lt (position_or_len test records) (length records) ≡ false
     at true e = let wrong : None ≡ Some (position_or_len test records) = rw e at none in absurd (cc)
     at false e = e
+
     nothing : (all : List KeyRecord) → nat_lt (position_or_len test all) (length all) ≡ false → all ≡ update_first test change all
     nothing [] over = refl
     nothing (kept ∷ all) over = by (test kept) refl (nothing all)

@@ -50,12 +50,14 @@ stays past turn bound (opening ∷ all) are =
 raised : (past : List (Turn Asked)) (bound above : ℕ) (all : List Opening) → bound ≤ above → AreOpened past bound all
     → AreOpened past above all
 raised past bound above [] le are = tt
-raised past bound above (opening ∷ all) le are =
-    (record {
-      below = let below = are.0.below in omega (arith, below, le);
-      within = are.0.within;
-      begun = are.0.begun;
-    }, are.1)
+raised past bound above (opening ∷ all) le are = (
+  record {
+    below = let below = are.0.below in omega (arith, below, le);
+    within = are.0.within;
+    begun = are.0.begun;
+  },
+  are.1,
+)
 
 -- the opening of a turn stands at its place
 opens_now : (past : List (Turn Asked)) (turn : Turn Asked) (opening : Opening) → opening.place ≡ suc (length past) → Tells turn.said turn.doing
