@@ -114,7 +114,7 @@ finish_does setup history caller ticket ruling few legal holds =
     let place = length (past_of setup history) + 1 in (
       may.intent,
       may.processing.intent.capture_method,
-      ap (λ (run : Option Flight). (finish_effect None (rows_of setup history) (time_of setup history) place ruling run).doing) own
+      ap (λ (run : Option Flight). (finish_effect (keys_after setup (past_of setup history)) (rows_of setup history) (time_of setup history) place ruling run).doing) own
           ∙ ap (doing_of ticket.caller ticket.run) (done_touch (view_of setup history) most_rows _ may.intent _ (ruled_done (view_of setup history) (doings_of setup history) place ticket ruling stands may)),
     )
 
@@ -129,7 +129,7 @@ park_does setup history caller ticket why few legal holds =
     let may = own_may_end (view_of setup history) (doings_of setup history) caller ticket.run ticket stands own in
     let place = length (past_of setup history) + 1 in (
       may.intent,
-      ap (λ (run : Option Flight). (park_effect None (rows_of setup history) (time_of setup history) place why run).doing) own
+      ap (λ (run : Option Flight). (park_effect (rows_of setup history) (time_of setup history) place why run).doing) own
           ∙ ap (doing_of ticket.caller ticket.run) (done_touch (view_of setup history) most_rows _ 0 _ (parked_done (view_of setup history) place may.intent ticket.order stands.ready may.attempt)),
     )
 
@@ -211,13 +211,13 @@ pub no_finish : (setup : Setup) (history : List Entry) (caller run : ℕ) (rulin
     → (effect_to setup history (record { caller = caller; deed = deed.Finish run ruling })).doing ≡ Leaves
 unfolding doings_of effect_to
 no_finish setup history caller run ruling none =
-    ap (λ (found : Option Flight). (finish_effect None (rows_after setup (past_of setup history)) (time_after setup (past_of setup history)) (length (past_of setup history) + 1) ruling found).doing) none
+    ap (λ (found : Option Flight). (finish_effect (keys_after setup (past_of setup history)) (rows_after setup (past_of setup history)) (time_after setup (past_of setup history)) (length (past_of setup history) + 1) ruling found).doing) none
 
 pub no_park : (setup : Setup) (history : List Entry) (caller run : ℕ) (why : Why) → own_run (doings_of setup history) caller run ≡ None
     → (effect_to setup history (record { caller = caller; deed = deed.Park run why })).doing ≡ Leaves
 unfolding doings_of effect_to
 no_park setup history caller run why none =
-    ap (λ (found : Option Flight). (park_effect None (rows_after setup (past_of setup history)) (time_after setup (past_of setup history)) (length (past_of setup history) + 1) why found).doing) none
+    ap (λ (found : Option Flight). (park_effect (rows_after setup (past_of setup history)) (time_after setup (past_of setup history)) (length (past_of setup history) + 1) why found).doing) none
 
 pub tick_does : (setup : Setup) (history : List Entry) (caller moment : ℕ)
     → (effect_to setup history (record { caller = caller; deed = deed.Tick moment })).doing ≡ Leaves
