@@ -204,7 +204,7 @@ ran {old} {new} {front} {mine} {raw} {ticket} {mark} {end} {ending} {reply} {lin
         decided = drove.decided;
         decisions = drove.decisions;
         counted = drove.counted old new;
-        nothing_left_live = live-ended e f;
+        nothing_left_live = live-ended e f waited.0 (ap (λ (t : Flight). t.run) waited.1);
       };
       marked_is = refl;
       out_is = refl;

@@ -40,4 +40,6 @@ saw_then_entered {old} {middle} {new} {act} {given} {mark} saw entered =
       front = e.front;
       mine = e.mine ∙ ap (λ (own : List (ℕ × Filed)). own ++ (length e.before + 1, _) ∷ []) saw.mine;
       answered = e.answered;
+      runs = e.runs;
+      fresh = e.fresh;
     }

@@ -1,8 +1,10 @@
 mod AnswerLemmas
+mod DeskLemmas
 mod FrontLemmas
 mod ItemFacts
 mod LiveLemmas
 mod PartLemmas
+mod PlaceLemmas
 mod ReadLemmas
 mod ServedLemmas
 mod SessionLemmas
