@@ -12,3 +12,5 @@ pub mod CalledLemmas
 pub mod CallerLemmas
 pub mod LookLemmas
 pub mod OwnRunLemmas
+pub mod GrowthLemmas
+pub mod HostLemmas

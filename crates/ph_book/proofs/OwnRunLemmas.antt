@@ -13,25 +13,23 @@ use Rattle.ph_doings.specs.Doings.{Doing, Leaves, Puts, Edits, Begins, Resumes, 
 use Rattle.ph_doings.specs.Kept.{step_of}
 use Rattle.ph_doings.specs.Runs.{Run, NoRun, Flies, ended_by, live_run}
 use Rattle.ph_doings.proofs.LawProofs.{live_is_run}
-use Rattle.ph_facts.specs.Outcomes.{Refuses, Adds}
-use Rattle.ph_facts.specs.Touches.{order_asked}
-use Rattle.ph_items.specs.declared.orders.Order.{Order}
-use Rattle.ph_rows.specs.declared.rows.Row.{Row}
 use Rattle.ph_book.specs.declared.setup.Setup.{Setup}
+use Rattle.ph_book.specs.declared.acts.Act.{Act}
 use Rattle.ph_book.specs.declared.acts.Deed.{Deed}
 use Rattle.ph_book.specs.declared.acts.Deed.TheVariants as deed
 use Rattle.ph_book.specs.declared.acts.Entry.{Entry}
-use Rattle.ph_book.specs.Called.{Steps, StepsAs}
-use Rattle.ph_book.specs.Calls.{Upshot, Rejects, Makes, Shows, Sets, called_at}
-use Rattle.ph_book.specs.Entries.{call_entry}
-use Rattle.ph_book.specs.History.{Happening, call_effect, doings_of, effect_to, finish_effect, park_effect, past_of, rows_after, rows_of, said_to, shown_or_waits, time_after, time_of, view_of}
+use Rattle.ph_book.specs.Called.{StepsAs}
+use Rattle.ph_book.specs.Entries.{call_entry, entry_of}
+use Rattle.ph_book.specs.Hosts.{IsLawful}
+use Rattle.ph_book.specs.History.{doings_of, effect_to, finish_effect, park_effect, past_of, rows_of, said_to, time_of, view_of}
 use Rattle.ph_book.specs.Legal.{IsLegal}
 use Rattle.ph_book.specs.OwnRuns.{RunsAfter, after_call, after_deed, after_end, own_of}
 use Rattle.ph_book.specs.Replies.{Said, Replies, Waits, Silence}
 use Rattle.ph_book.specs.Runs.{if_own, own_run}
 use Rattle.ph_book.specs.Stays.{own_stays}
-use Rattle.ph_book.proofs.EffectLemmas.{done_touch, own_is, own_may_end, parked_done, raw_steps, ruled_done}
-use Rattle.ph_book.proofs.HistoryLemmas.{doings_grow, length_past}
+use Rattle.ph_book.proofs.EffectLemmas.{done_touch, own_is, own_may_end, parked_done, ruled_done}
+use Rattle.ph_book.proofs.HistoryLemmas.{doings_grow}
+use Rattle.ph_book.proofs.ReplyLemmas.{IsServedOrWaits, call_steps_to, said_to_call}
 use Rattle.ph_book.proofs.StandLemmas.{history_stands}
 
 -- ---- calls
@@ -71,24 +69,6 @@ called_own : (past : List Doing) (does : Doing) (caller place : ℕ) (said : Sai
 called_own past does caller place (Replies reply) run steps speaks = quiet_own past does caller run steps
 called_own past does caller place (Waits order) run steps speaks = begun_own past does (record { caller = caller; run = place; order = order }) run steps
 called_own past does caller place Silence run steps speaks = absurd (speaks refl)
-
--- something is said to a call
-upshot_speaks : (rows : List Row) (now place caller : ℕ) (upshot : Upshot) → (call_effect None rows now place caller upshot).said ≡ Silence → ⊥
-upshot_speaks rows now place caller (Rejects error) e = cc
-upshot_speaks rows now place caller (Makes (Refuses error)) e = cc
-upshot_speaks rows now place caller (Makes (Adds touch object batch)) e = waits (order_asked touch) e
-  where
-    waits : (order : Option Order) → shown_or_waits now rows object batch order ≡ Silence → ⊥
-    waits None e = cc
-    waits (Some order) e = cc
-upshot_speaks rows now place caller (Shows doc) e = cc
-upshot_speaks rows now place caller (Sets moment) e = cc
-
-call_speaks : (setup : Setup) (history : List Entry) (caller : ℕ) (raw : Raw) → said_to setup history (call_entry caller raw) ≡ Silence → ⊥
-unfolding effect_to
-call_speaks setup history caller raw =
-    let past : List Happening = past_of setup history in
-    upshot_speaks (rows_after setup past) (time_after setup past) (length past + 1) caller (called_at setup.key (rows_after setup past) (time_after setup past) (length past + 1) raw)
 
 -- ---- the ends of runs
 
@@ -183,19 +163,13 @@ module _ (setup : Setup) (history : List Entry) (few : setup.entries < 2 ^ 32) (
       let does = park_does place caller number why flight own in
       ap (λ d. own_run (d ∷ doings_of setup history) caller run) does.1 ∙ ended_own caller number run flight does.0 own does.2
 
-  call_step : (caller : ℕ) (raw : Raw) → Steps caller (length history + 1) (effect_to setup history (call_entry caller raw))
-  unfolding rows_of time_of doings_of effect_to
-  call_step caller raw =
-      subst (λ n. Steps caller (n + 1) (effect_to setup history (call_entry caller raw))) (length_past setup history)
-      (raw_steps setup (view_of setup history) (doings_of setup history) (length (past_of setup history) + 1) caller raw (history_stands setup history few legal).ready)
-
   -- after a deed of its own
   own_done : (caller run : ℕ) (d : Deed) → own_run ((effect_to setup history (record { caller = caller; deed = d })).doing ∷ doings_of setup history) caller run
       ≡ after_deed caller (length history + 1) d (said_to setup history (record { caller = caller; deed = d })) run (own_of setup history caller run)
   unfolding rows_of time_of doings_of effect_to
   own_done caller run (deed.Call raw) =
       called_own (doings_of setup history) (effect_to setup history (call_entry caller raw)).doing caller (length history + 1) (said_to setup history (call_entry caller raw)) run
-      (call_step caller raw) (call_speaks setup history caller raw)
+      (call_steps_to setup history caller raw few legal) (λ silent. subst IsServedOrWaits silent (said_to_call setup history caller raw few legal))
   own_done caller run (deed.Finish number ruling) =
       finished_own (length (past_of setup history) + 1) caller number run ruling (own_of setup history caller number) refl
   own_done caller run (deed.Park number why) =
@@ -208,3 +182,7 @@ module _ (setup : Setup) (history : List Entry) (few : setup.entries < 2 ^ 32) (
     own = λ run. ap (λ past. own_run past entry.caller run) (doings_grow setup history entry) ∙ own_done entry.caller run entry.deed;
     others = λ caller run apart. own_stays setup history (entry ∷ []) caller run (apart, tt);
   }
+
+-- the live runs after an act that a book entered
+pub runs_entered : (setup : Setup) (history : List Entry) (caller : ℕ) (a : Act) → IsLawful setup history → RunsAfter setup history (entry_of caller a)
+runs_entered setup history caller a lawful = runs_after setup history lawful.few lawful.legal (entry_of caller a)

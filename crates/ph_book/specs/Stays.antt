@@ -133,7 +133,8 @@ own_stays setup history more caller run none =
     ap (λ past. own_run (doings_after past) caller run) (fold-append (and_then setup) [] history more)
     ∙ own_beside_all setup (past_of setup history) more caller run (history_numbers setup history) none
 
-held_stays : (setup : Setup) (history more : List Entry) (caller : ℕ) (ticket : Flight) → NoneOf caller_of caller more
+-- so its tickets stay those of live runs
+pub held_stays : (setup : Setup) (history more : List Entry) (caller : ℕ) (ticket : Flight) → NoneOf caller_of caller more
     → Holds setup history caller ticket → Holds setup (history ++ more) caller ticket
 unfolding Holds
 held_stays setup history more caller ticket none holds = own_stays setup history more caller ticket.run none ∙ holds
