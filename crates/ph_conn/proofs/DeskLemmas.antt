@@ -53,10 +53,10 @@ pub known-legal : (book : BookState) → IsLegal book.setup book.history → IsL
 known-legal book legal = subst (IsLegal book.setup) (sym (entries-kept book.history)) legal
 
 -- an act was entered in the book
-pub entered_alone : (old new : BookState) (a : Act) (given : Answer) → new ≡ entered old (entry_of 0 a) → IsLegal new.setup new.history → new.setup.entries < 2 ^ 32
-    → Answers old.setup old.history (entry_of 0 a) given → Entered (known_alone old) (known_alone new) a given kept.Yes
-entered_alone old new a given is legal few answered = subst (λ (b : BookState). Entered (known_alone old) (known_alone b) a given kept.Yes) (sym is)
-    (at (subst (λ (b : BookState). IsLegal b.setup b.history) is legal) (subst (λ (b : BookState). b.setup.entries < 2 ^ 32) is few))
+pub entered_alone : (old new : BookState) (a : Act) (given : Answer) → new ≡ entered old (entry_of 0 a) → IsLegal new.setup new.history
+    → Answers old.setup old.history (entry_of 0 a) given → RunsAfter old.setup old.history (entry_of 0 a) → Entered (known_alone old) (known_alone new) a given kept.Yes
+entered_alone old new a given is legal answered runs = subst (λ (b : BookState). Entered (known_alone old) (known_alone b) a given kept.Yes) (sym is)
+    (at (subst (λ (b : BookState). IsLegal b.setup b.history) is legal))
   where
     entry : Entry
     entry = entry_of 0 a
@@ -70,9 +70,8 @@ entered_alone old new a given is legal few answered = subst (λ (b : BookState).
     front : map kept_entry (old.history ++ entry ∷ []) ≡ before ++ filed 0 a kept.Yes ∷ []
     front = map-append kept_entry old.history (entry ∷ [])
 
-    at : IsLegal old.setup (old.history ++ entry ∷ []) → old.setup.entries < 2 ^ 32 → Entered (known_alone old) (known_alone (entered old entry)) a given kept.Yes
-    at legal few =
-        let was_legal : IsLegal old.setup old.history = legal-front old.setup old.history (entry ∷ []) legal in
+    at : IsLegal old.setup (old.history ++ entry ∷ []) → Entered (known_alone old) (known_alone (entered old entry)) a given kept.Yes
+    at legal =
         let place : 1 + length before ≡ length before + 1 = omega arith in
         record {
           same = record { setup = refl; caller = refl; legal = subst (IsLegal old.setup) (sym (entries-kept (old.history ++ entry ∷ []))) legal };
@@ -82,7 +81,7 @@ entered_alone old new a given is legal few answered = subst (λ (b : BookState).
           front = front;
           mine = ap (placed_from 1) front ∙ placed-push 1 before (filed 0 a kept.Yes) ∙ ap (λ n. placed_from 1 before ++ (n, filed 0 a kept.Yes) ∷ []) place;
           answered = subst (λ (h : List Entry). Answers old.setup h entry given) (sym same) answered;
-          runs = subst (λ (h : List Entry). RunsAfter old.setup h entry) (sym same) (runs_after old.setup old.history few was_legal entry);
+          runs = subst (λ (h : List Entry). RunsAfter old.setup h entry) (sym same) runs;
           fresh = fresh-place old.setup (entries_in before) 0;
         }
 

@@ -2,6 +2,7 @@ mod AnswerLemmas
 mod DeskLemmas
 mod FrontLemmas
 mod ItemFacts
+mod KeptLemmas
 mod LiveLemmas
 mod PartLemmas
 mod PlaceLemmas

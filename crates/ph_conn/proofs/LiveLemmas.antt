@@ -62,11 +62,11 @@ end-after caller place ticket (Settled ruling) said run had = refl
 end-after caller place ticket (GivenUp reason) said run had = refl
 
 -- a call that waits, and then the end of its run, leave the live runs as they were
-pub live-ended : {old new : Known} {front : List Filed} {mine : List (ℕ × Filed)} {raw : Raw} {ticket : Flight} {mark end : Kept} {ending : Ending} {reply : Reply}
+pub live-ended : {old new : Known} {front : List Filed} {mine : List (ℕ × Filed)} {raw : Raw} {mark end : Kept} {reply : Reply} (ticket : Flight) (ending : Ending)
     → (e : Entered old (record { setup = old.setup; caller = old.caller; front = front; mine = mine }) (act.Call raw) (answer.Wait ticket) mark)
     → Ended (record { setup = old.setup; caller = old.caller; front = front; mine = mine }) new ticket ending reply end
     → said_behind old.setup e.before (call_entry old.caller raw) ≡ Waits ticket.order → ticket.run ≡ length (entries_in e.before) + 1 → KeepsLive old new
-live-ended {old} {new} {front} {mine} {raw} {ticket} {mark} {end} {ending} {reply} e f said number run =
+live-ended {old} {new} {front} {mine} {raw} {mark} {end} {reply} ticket ending e f said number run =
     let place : ℕ = length (entries_in e.before) + 1 in
     let had : Option Flight = live_in (known_at old e.before) run in
     let middle : Known = record { setup = old.setup; caller = old.caller; front = front; mine = mine } in

@@ -31,20 +31,21 @@ use Rattle.ph_conn.proofs.FrontLemmas.{starts-more, starts-twice}
 -- the history up to the end of a part begins with what stood before the part
 behind-starts : (caller : ℕ) (first : List Filed) (part : Part) (run : Option Run) → StartsWith part.before first → Stands caller first (record part { run = run })
     → StartsWith (ended caller (place_behind part.before) (called caller part) run) first
-behind-starts caller first part None seen stands = starts-twice seen (starts-more part.before _)
+behind-starts caller first part None seen stands = starts-twice first part.before _ seen (starts-more part.before _)
 behind-starts caller first part (Some run) seen stands =
-    starts-twice (starts-twice (starts-twice seen (starts-more part.before _)) stands.1) (starts-more run.before _)
+    starts-twice first run.before _
+    (starts-twice first (called caller part) run.before (starts-twice first part.before (called caller part) seen (starts-more part.before _)) stands.1) (starts-more run.before _)
 
 pub part-starts : (caller : ℕ) (first : List Filed) (part : Part) → Stands caller first part → StartsWith (behind caller part) first
 part-starts caller first part stands = behind-starts caller first part part.run stands.0 stands
 
 pub stand-push : (caller : ℕ) (first now last : List Filed) (parts : List Part) (part : Part) → AllStand caller first now parts → Stands caller now part
     → StartsWith last (behind caller part) → AllStand caller first last (parts ++ part ∷ [])
-stand-push caller first now last [] part all is next = ((starts-twice all is.0, is.1), next)
+stand-push caller first now last [] part all is next = ((starts-twice first now part.before all is.0, is.1), next)
 stand-push caller first now last (part' ∷ parts) part all is next = (all.0, stand-push caller (behind caller part') now last parts part all.1 is next)
 
 pub stand-saw : (caller : ℕ) (first now last : List Filed) (parts : List Part) → AllStand caller first now parts → StartsWith last now → AllStand caller first last parts
-stand-saw caller first now last [] all saw = starts-twice all saw
+stand-saw caller first now last [] all saw = starts-twice first now last all saw
 stand-saw caller first now last (part ∷ parts) all saw = (all.0, stand-saw caller (behind caller part) now last parts all.1 saw)
 
 -- ---- entries

@@ -46,7 +46,7 @@ use Rattle.ph_conn.specs.declared.reads.Fetched.{Fetched}
 use Rattle.ph_conn.specs.declared.reads.Fetched.TheVariants as fetched
 use Rattle.ph_conn.proofs.ItemFacts.{leads_then}
 use Rattle.ph_conn.proofs.PartLemmas.{requests-push, front-push}
-use Rattle.ph_conn.proofs.ServedLemmas.{Serves, serves-nothing, written, line-left, output-left, line-waiting, served-with, no-replies, reply_text, Took, took, goes_further, goes_no_further}
+use Rattle.ph_conn.proofs.ServedLemmas.{Serves, serves-nothing, written, line-left, output-left, line-waiting, served-with, no-replies, reply_text, TookText, took, goes_further, goes_no_further}
 use Rattle.ph_conn.proofs.WorkLemmas.{Grown, grown-nothing, grown-push, grown-saw, work-push, session_with, session_of}
 
 -- ---- the state of a session between two requests
@@ -602,7 +602,7 @@ pub record Done (limit i n : ℕ) (talk : TalkState) (raw : Raw) (means0 means1 
   pub requests : requests_of parts ≡ before ++ raw ∷ []
   pub count : length parts ≡ i + 1
   pub left_is : i + suc n ≡ limit
-  pub done : Took limit given before replies text raw continues n
+  pub done : TookText limit given before replies text raw continues n
   pub wrote : Takes output0 output1 text
 
 pub answered : {limit i n : ℕ} {talk : TalkState} {raw : Raw} {continues : Bool} {means0 means1 means2 : Means} {input0 input1 : SourceState} {output0 output1 output2 : SinkState} (last : Bool) (what : Outcome) (nothing : ⊤)

@@ -131,10 +131,10 @@ module _ {E Base : Type 0} (setup : Base → Setup) (plain : E → Entry) (mark 
 
 module _ {E Base : Type 0} where
   -- a pass of this lock, whose caller may enter acts
-  pub record IsFit (by : E → ℕ) (lawful : Base → List E → Type 0) (lock : TableId) (pass : Shown E Base) : Type 0 where
-    pub lock : pass.lock ≡ lock
+  pub record IsFit (by : E → ℕ) (lawful : Base → List E → Type 0) (table : TableId) (pass : Shown E Base) : Type 0 where
+    pub lock : pass.lock ≡ table
     pub small : pass.caller < 2 ^ 62
-    pub pass : IsPass by lawful pass
+    pub is_pass : IsPass by lawful pass
 
   -- the same pass, which may have seen more
   pub record Grown (old new : Shown E Base) : Type 0 where

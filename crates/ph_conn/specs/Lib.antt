@@ -1,4 +1,5 @@
 pub mod Fronts
+pub mod Grows
 pub mod Parts
 pub mod Means
 pub mod Answers

@@ -1,5 +1,5 @@
 //! A book that no one else has.
-ghost use Rattle.std.specs.Prelude.{◌≡◌, ◌^◌, ◌<◌, IfErr, IfOk, IsOk, IsTrue, Unit};
+ghost use Rattle.std.specs.Prelude.{◌≡◌, ◌^◌, ◌<◌, IfErr, IfOk, IsOk, IsTrue};
 ghost use Rattle.ph_lock.specs.declared.object.Refused.{Refused};
 ghost use Rattle.ph_book.specs.Entries.{IsGranted, deed_of};
 ghost use Rattle.ph_book.specs.Legal.{is_full};

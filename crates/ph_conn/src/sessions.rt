@@ -4,8 +4,10 @@ ghost use Rattle.ph_io.specs.Told.{SourceState};
 ghost use Rattle.ph_lock.specs.Histories.{StartsWith};
 ghost use Rattle.ph_lock.specs.Passes.{IsPass, SamePass};
 ghost use Rattle.ph_book.specs.Legal.{IsLegal};
-ghost use Rattle.ph_conn.specs.Fronts.{entries_in, known_alone, known_by};
-ghost use Rattle.ph_conn.specs.Means.{Means};
+ghost use Rattle.ph_book.specs.State.{BookState};
+ghost use Rattle.ph_bank.specs.Links.{Link};
+ghost use Rattle.ph_bank.specs.Patiences.{Granted};
+ghost use Rattle.ph_conn.specs.Fronts.{known_alone, known_by};
 ghost use Rattle.ph_conn.specs.Session.{Session, SoloSession};
 
 use crate::alone::Alone;
@@ -63,8 +65,9 @@ pub fn serve_solo<S: Source, K: Sink, A: Acquirer, P: Patience>(
 
 /// What a session does for whose book there is no memory: it reads nothing, and 503 `no_memory` is written.
 pub fn serve_none<K: Sink>(output: &mut K) -> TalkError
-    ensures { (limit : ℕ) (means : Means) (input : SourceState) → IsLegal means.known.setup (entries_in means.known.front)
-        → SoloSession (Err result) limit means means input input (K.sink output.old) (K.sink output.new) }
+    ensures { (limit : ℕ) (book : BookState) (link : Link) (counts : Granted) (input : SourceState) → IsLegal book.setup book.history
+        → SoloSession (Err result) limit (record { known = known_alone book; link = link; counts = counts })
+        (record { known = known_alone book; link = link; counts = counts }) input input (K.sink output.old) (K.sink output.new) }
 {
     part(output, Fixed::NoMemory, TalkError::NoMemory)
 }
