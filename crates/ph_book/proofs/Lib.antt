@@ -14,3 +14,5 @@ pub mod LookLemmas
 pub mod OwnRunLemmas
 pub mod GrowthLemmas
 pub mod HostLemmas
+pub mod ObjectLemmas
+pub mod RunLemmas

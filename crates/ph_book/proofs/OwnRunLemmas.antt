@@ -7,10 +7,9 @@ use Rattle.ph_base.specs.declared.acquirer.Why.{Why}
 use Rattle.ph_attempts.specs.Attempts.{is_same_run}
 use Rattle.ph_attempts.specs.Attempts as step
 use Rattle.ph_attempts.specs.declared.flights.Flight.{Flight}
-use Rattle.ph_http.specs.declared.message.Raw.{Raw}
-use Rattle.ph_facts.specs.Keeps.{most_rows}
-use Rattle.ph_doings.specs.Doings.{Doing, Leaves, Puts, Edits, Begins, Resumes, Parks, Settles, doing_of}
+use Rattle.ph_doings.specs.Doings.{Doing, Leaves, Puts, Edits, Begins, Resumes, Parks, Settles}
 use Rattle.ph_doings.specs.Kept.{step_of}
+use Rattle.ph_doings.specs.Lawful.{IsLawful}
 use Rattle.ph_doings.specs.Runs.{Run, NoRun, Flies, ended_by, live_run}
 use Rattle.ph_doings.proofs.LawProofs.{live_is_run}
 use Rattle.ph_book.specs.declared.setup.Setup.{Setup}
@@ -20,16 +19,17 @@ use Rattle.ph_book.specs.declared.acts.Deed.TheVariants as deed
 use Rattle.ph_book.specs.declared.acts.Entry.{Entry}
 use Rattle.ph_book.specs.Called.{StepsAs}
 use Rattle.ph_book.specs.Entries.{call_entry, entry_of}
-use Rattle.ph_book.specs.Hosts.{IsLawful}
-use Rattle.ph_book.specs.History.{doings_of, effect_to, finish_effect, park_effect, past_of, rows_of, said_to, time_of, view_of}
+use Rattle.ph_book.specs.Hosts as host
+use Rattle.ph_book.specs.History.{doings_of, effect_to, said_to}
 use Rattle.ph_book.specs.Legal.{IsLegal}
-use Rattle.ph_book.specs.OwnRuns.{RunsAfter, after_call, after_deed, after_end, own_of}
+use Rattle.ph_book.specs.OwnRuns.{RunsAfter, after_call, after_deed, after_end}
 use Rattle.ph_book.specs.Replies.{Said, Replies, Waits, Silence}
 use Rattle.ph_book.specs.Runs.{if_own, own_run}
 use Rattle.ph_book.specs.Stays.{own_stays}
-use Rattle.ph_book.proofs.EffectLemmas.{done_touch, own_is, own_may_end, parked_done, ruled_done}
+use Rattle.ph_book.proofs.EffectLemmas.{own_is}
 use Rattle.ph_book.proofs.HistoryLemmas.{doings_grow}
 use Rattle.ph_book.proofs.ReplyLemmas.{IsServedOrWaits, call_steps_to, said_to_call}
+use Rattle.ph_book.proofs.RunLemmas.{finish_does, no_finish, no_park, park_does, run_held, tick_does}
 use Rattle.ph_book.proofs.StandLemmas.{history_stands}
 
 -- ---- calls
@@ -114,75 +114,62 @@ no_end past caller number run none = at (run == number) refl
     at false e = sym (ap (λ b. cond b None (own_run past caller run)) e)
 
 module _ (setup : Setup) (history : List Entry) (few : setup.entries < 2 ^ 32) (legal : IsLegal setup history) where
-  -- a ruling on a live run settles its attempt
-  pub finish_does : (place caller run : ℕ) (ruling : Ruling) (flight : Flight) → own_of setup history caller run ≡ Some flight
-      → (doing : Doing) × ((finish_effect None (rows_of setup history) (time_of setup history) place ruling (Some flight)).doing ≡ doing)
-      × ((number : ℕ) → live_run (doing ∷ doings_of setup history) number ≡ ended_by flight (live_run (doings_of setup history) number))
-  finish_does place caller run ruling flight own =
-      let stands = history_stands setup history few legal in
-      let may = own_may_end (view_of setup history) (doings_of setup history) caller run flight stands own in
-      (Settles may.intent flight may.processing.intent.capture_method ruling,
-      ap (doing_of flight.caller flight.run) (done_touch (view_of setup history) most_rows _ may.intent _ (ruled_done (view_of setup history) (doings_of setup history) place flight ruling stands may)),
-      λ number. refl)
+  past : List Doing
+  past = doings_of setup history
 
-  -- a park of a live run parks it
-  pub park_does : (place caller run : ℕ) (why : Why) (flight : Flight) → own_of setup history caller run ≡ Some flight
-      → (doing : Doing) × ((park_effect None (rows_of setup history) (time_of setup history) place why (Some flight)).doing ≡ doing)
-      × ((number : ℕ) → live_run (doing ∷ doings_of setup history) number ≡ ended_by flight (live_run (doings_of setup history) number))
-  park_does place caller run why flight own =
-      let stands = history_stands setup history few legal in
-      let may = own_may_end (view_of setup history) (doings_of setup history) caller run flight stands own in
-      (Parks may.intent flight,
-      ap (doing_of flight.caller flight.run) (done_touch (view_of setup history) most_rows _ 0 _ (parked_done (view_of setup history) place may.intent flight.order stands.ready may.attempt)),
-      λ number. refl)
+  lawful : IsLawful past
+  lawful = (history_stands setup history few legal).lawful
 
-  -- after such an end
-  ended_own : (caller number run : ℕ) (flight : Flight) (does : Doing) → own_of setup history caller number ≡ Some flight
-      → ((n : ℕ) → live_run (does ∷ doings_of setup history) n ≡ ended_by flight (live_run (doings_of setup history) n))
-      → own_run (does ∷ doings_of setup history) caller run ≡ after_end number run (own_of setup history caller run)
+  -- after the end of its live run of a number
+  ended_own : (caller number run : ℕ) (flight : Flight) (does : Doing) → own_run past caller number ≡ Some flight
+      → ((n : ℕ) → live_run (does ∷ past) n ≡ ended_by flight (live_run past n))
+      → own_run (does ∷ past) caller run ≡ after_end number run (own_run past caller run)
   ended_own caller number run flight does own ends =
-      let past : List Doing = doings_of setup history in
-      let lawful = (history_stands setup history few legal).lawful in
       let it = own_is past caller number flight lawful own in
       ap (if_own caller) (ends run)
       ∙ own_ended past flight caller number run (live_run past run) refl (λ other live. (live_is_run past lawful).number run other live) it.1.0 it.1.1
 
-  finished_own : (place caller number run : ℕ) (ruling : Ruling) (found : Option Flight) → own_of setup history caller number ≡ found
-      → own_run ((finish_effect None (rows_of setup history) (time_of setup history) place ruling found).doing ∷ doings_of setup history) caller run
-      ≡ after_end number run (own_of setup history caller run)
-  finished_own place caller number run ruling None own = no_end (doings_of setup history) caller number run own
-  finished_own place caller number run ruling (Some flight) own =
-      let does = finish_does place caller number ruling flight own in
-      ap (λ d. own_run (d ∷ doings_of setup history) caller run) does.1 ∙ ended_own caller number run flight does.0 own does.2
+  finished_own : (caller number run : ℕ) (ruling : Ruling) (found : Option Flight) → own_run past caller number ≡ found
+      → own_run ((effect_to setup history (record { caller = caller; deed = deed.Finish number ruling })).doing ∷ past) caller run
+      ≡ after_end number run (own_run past caller run)
+  finished_own caller number run ruling None own =
+      ap (λ d. own_run (d ∷ past) caller run) (no_finish setup history caller number ruling own) ∙ no_end past caller number run own
+  finished_own caller number run ruling (Some flight) own =
+      let it = own_is past caller number flight lawful own in
+      let does = finish_does setup history caller flight ruling few legal (run_held setup history caller flight it.0 it.1.1) in
+      ap (λ n. own_run ((effect_to setup history (record { caller = caller; deed = deed.Finish n ruling })).doing ∷ past) caller run) (sym it.1.0)
+      ∙ ap (λ d. own_run (d ∷ past) caller run) does.2
+      ∙ ended_own caller number run flight (Settles does.0 flight does.1 ruling) own (λ n. refl)
 
-  parked_own : (place caller number run : ℕ) (why : Why) (found : Option Flight) → own_of setup history caller number ≡ found
-      → own_run ((park_effect None (rows_of setup history) (time_of setup history) place why found).doing ∷ doings_of setup history) caller run
-      ≡ after_end number run (own_of setup history caller run)
-  parked_own place caller number run why None own = no_end (doings_of setup history) caller number run own
-  parked_own place caller number run why (Some flight) own =
-      let does = park_does place caller number why flight own in
-      ap (λ d. own_run (d ∷ doings_of setup history) caller run) does.1 ∙ ended_own caller number run flight does.0 own does.2
+  parked_own : (caller number run : ℕ) (why : Why) (found : Option Flight) → own_run past caller number ≡ found
+      → own_run ((effect_to setup history (record { caller = caller; deed = deed.Park number why })).doing ∷ past) caller run
+      ≡ after_end number run (own_run past caller run)
+  parked_own caller number run why None own =
+      ap (λ d. own_run (d ∷ past) caller run) (no_park setup history caller number why own) ∙ no_end past caller number run own
+  parked_own caller number run why (Some flight) own =
+      let it = own_is past caller number flight lawful own in
+      let does = park_does setup history caller flight why few legal (run_held setup history caller flight it.0 it.1.1) in
+      ap (λ n. own_run ((effect_to setup history (record { caller = caller; deed = deed.Park n why })).doing ∷ past) caller run) (sym it.1.0)
+      ∙ ap (λ d. own_run (d ∷ past) caller run) does.1
+      ∙ ended_own caller number run flight (Parks does.0 flight) own (λ n. refl)
 
   -- after a deed of its own
-  own_done : (caller run : ℕ) (d : Deed) → own_run ((effect_to setup history (record { caller = caller; deed = d })).doing ∷ doings_of setup history) caller run
-      ≡ after_deed caller (length history + 1) d (said_to setup history (record { caller = caller; deed = d })) run (own_of setup history caller run)
-  unfolding rows_of time_of doings_of effect_to
+  own_done : (caller run : ℕ) (d : Deed) → own_run ((effect_to setup history (record { caller = caller; deed = d })).doing ∷ past) caller run
+      ≡ after_deed caller (length history + 1) d (said_to setup history (record { caller = caller; deed = d })) run (own_run past caller run)
   own_done caller run (deed.Call raw) =
-      called_own (doings_of setup history) (effect_to setup history (call_entry caller raw)).doing caller (length history + 1) (said_to setup history (call_entry caller raw)) run
+      called_own past (effect_to setup history (call_entry caller raw)).doing caller (length history + 1) (said_to setup history (call_entry caller raw)) run
       (call_steps_to setup history caller raw few legal) (λ silent. subst IsServedOrWaits silent (said_to_call setup history caller raw few legal))
-  own_done caller run (deed.Finish number ruling) =
-      finished_own (length (past_of setup history) + 1) caller number run ruling (own_of setup history caller number) refl
-  own_done caller run (deed.Park number why) =
-      parked_own (length (past_of setup history) + 1) caller number run why (own_of setup history caller number) refl
-  own_done caller run (deed.Tick moment) = refl
+  own_done caller run (deed.Finish number ruling) = finished_own caller number run ruling (own_run past caller number) refl
+  own_done caller run (deed.Park number why) = parked_own caller number run why (own_run past caller number) refl
+  own_done caller run (deed.Tick moment) = ap (λ d. own_run (d ∷ past) caller run) (tick_does setup history caller moment)
 
   -- what an entry does to the live runs of each caller
   pub runs_after : (entry : Entry) → RunsAfter setup history entry
   runs_after entry = record {
-    own = λ run. ap (λ past. own_run past entry.caller run) (doings_grow setup history entry) ∙ own_done entry.caller run entry.deed;
+    own = λ run. ap (λ doings. own_run doings entry.caller run) (doings_grow setup history entry) ∙ own_done entry.caller run entry.deed;
     others = λ caller run apart. own_stays setup history (entry ∷ []) caller run (apart, tt);
   }
 
 -- the live runs after an act that a book entered
-pub runs_entered : (setup : Setup) (history : List Entry) (caller : ℕ) (a : Act) → IsLawful setup history → RunsAfter setup history (entry_of caller a)
+pub runs_entered : (setup : Setup) (history : List Entry) (caller : ℕ) (a : Act) → host.IsLawful setup history → RunsAfter setup history (entry_of caller a)
 runs_entered setup history caller a lawful = runs_after setup history lawful.few lawful.legal (entry_of caller a)

@@ -150,7 +150,7 @@ spends_stays setup history more caller (act.Tick moment) none own = own
 pub stays_allowed : (setup : Setup) (history more : List Entry) (caller : ℕ) (a : Act) → NoneOf caller_of caller more
     → Allows setup history caller a → Allows setup (history ++ more) caller a
 stays_allowed setup history more caller a none allowed = record {
-  caller = allowed.caller;
+  small = allowed.small;
   own = spends_stays setup history more caller a none allowed.own;
   clock = allowed.clock;
 }

@@ -1,8 +1,9 @@
 -- A request that is entered, with its run and its reply.
-use Rattle.std.proofs.Common.{◌≡◌, ◌≢◌, ℕ, ◌+◌, ◌≤◌, ◌==◌, ◌||◌, Bool, true, false, ◌++◌, ◌∷◌, ◌∙◌, List, [], length, map, Option, Some, None, Result, Ok, Err, IsTrue, refl, sym, ap, subst, append_assoc, arith}
+use Rattle.std.proofs.Common.{◌≡◌, ◌≢◌, ℕ, ◌+◌, ◌^◌, ◌<◌, ◌≤◌, ◌==◌, ◌||◌, Bool, true, false, ◌++◌, ◌∷◌, ◌∙◌, List, [], length, map, Option, Some, None, Result, Ok, Err, IsTrue, refl, sym, ap, subst, append_assoc, arith}
 use Rattle.std.proofs.lemmas.List.{append-nil, length-map, map-append}
 use Rattle.ph_base.specs.Counts.{Rose}
 use Rattle.ph_base.specs.declared.acquirer.Ruling.{Ruling}
+use Rattle.ph_base.specs.declared.acquirer.Ruling.TheVariants as ruling
 use Rattle.ph_base.specs.declared.acquirer.Why.{Why}
 use Rattle.ph_base.specs.declared.acquirer.Why.TheVariants as why
 use Rattle.ph_attempts.specs.declared.flights.Flight.{Flight}
@@ -27,9 +28,10 @@ use Rattle.ph_book.specs.declared.hosted.Kept.TheVariants as kept
 use Rattle.ph_book.specs.declared.setup.Setup.{Setup}
 use Rattle.ph_book.specs.Answers.{IsRuled, Says, is_ruled}
 use Rattle.ph_book.specs.Entries.{call_entry, entry_of}
+use Rattle.ph_book.specs.Tickets.{Holds}
 use Rattle.ph_book.specs.Replies.{Said, Replies, Waits, Silence, park_reply}
 use Rattle.ph_conn.specs.Answers.{Answers, BreaksFor, Comes, Ended, Idles, Settles, Took, end_act}
-use Rattle.ph_conn.specs.Fronts.{Filed, Known, IsSame, KeepsLive, OnlySaw, Entered, entries_in, filed, live_in, said_behind}
+use Rattle.ph_conn.specs.Fronts.{Filed, Known, IsSame, KeepsLive, OnlySaw, Entered, entries_in, filed, live_in, said_behind, MayDo}
 use Rattle.ph_conn.specs.Means.{Means, Counted, RoseBy}
 use Rattle.ph_conn.specs.Parts.{Ending, Settled, GivenUp, Drive, Run, Part, EndsBy, EndsAs, Follows, IsRun, IsReplyOf, IsReplyTo, Stands, behind, call_filed, called, end_entry, end_filed, entries_of, place_behind, asks_by, DriveDecided, failures, failures_in, refusals, refusals_in, grants, drives, if_driven, is_out, is_out_in, first_mark, mark_of, IsWell}
 use Rattle.ph_conn.specs.Sends.{IsWritable}
@@ -37,7 +39,7 @@ use Rattle.ph_conn.specs.declared.answers.Outcome.{Outcome}
 use Rattle.ph_conn.specs.declared.answers.Outcome.TheVariants as outcome
 use Rattle.ph_conn.specs.declared.endings.TalkError.{TalkError}
 use Rattle.ph_conn.specs.declared.endings.TalkError.TheVariants as fault
-use Rattle.ph_conn.proofs.FrontLemmas.{as_before, starts-twice}
+use Rattle.ph_conn.proofs.FrontLemmas.{as_before, saw_then_entered}
 use Rattle.ph_conn.proofs.LiveLemmas.{live-replied, live-ended}
 use Rattle.ph_conn.proofs.PartLemmas.{and_asks-none, counted-none}
 
@@ -87,11 +89,8 @@ took_reply {old} {new} {raw} {reply} {mark} link counts e =
 -- ---- a call that waits
 
 -- the reply to the end of a run, by its kind
-ruled_is_no_park : (status : ℕ) → is_ruled status ≡ true → status ≢ 500
-ruled_is_no_park status ruled is = let both : is_ruled 500 ≡ true = ap is_ruled (sym is) ∙ ruled in cc
-
 end_replied : {old new : Known} {reply : Reply} {mark : Kept} (ticket : Flight) (ending : Ending) → Ended old new ticket ending reply mark → IsReplyOf ending reply
-end_replied {reply = reply} ticket (Settled ruling) e = ruled_is_no_park reply.status e.answered.kind
+end_replied {reply = reply} ticket (Settled ruling) e = e.answered.kind
 end_replied {reply = reply} ticket (GivenUp reason) e = reply_is e.answered.kind
   where
     reply_in : Answer → Reply
@@ -319,6 +318,54 @@ settled_as ticket end kept.NoMemory ending outcome.NoMemory e ends had comes = a
 pub park-replied : {old new : Known} {reply : Reply} {mark : Kept} (ticket : Flight) (reason : Why) → Ended old new ticket (GivenUp reason) reply mark
     → Ended old new ticket (GivenUp reason) (park_reply reason) mark
 park-replied {old} {new} {reply} {mark} ticket reason e = subst (λ (r : Reply). Ended old new ticket (GivenUp reason) r mark) (end_replied ticket (GivenUp reason) e) e
+
+-- a ticket that came back is spent by a park
+pub came_back : {old middle new : Known} {reply : Reply} {mark : Kept} (back ticket : Flight) (reason : Why) → back ≡ ticket → OnlySaw old middle → Ended middle new back (GivenUp reason) reply mark
+    → Ended old new ticket (GivenUp reason) reply mark
+came_back {old} {middle} {new} {reply} {mark} back ticket reason same saw e =
+    subst (λ (t : Flight). Ended old new t (GivenUp reason) reply mark) same
+    (saw_then_entered {old} {middle} {new} {act.Park back reason} {answer.Reply reply} {mark} saw e)
+
+-- for want of memory for its ruling a run was given up, and that is kept
+pub out_kept : {old new : Known} {reply : Reply} {mark : Kept} (ticket : Flight) (end : Driven) (ruling : Ruling) → end ≡ driven.Ready ruling → mark ≡ kept.Yes
+    → Ended old new ticket (GivenUp why.NoMemory) reply mark → Settles old new ticket end outcome.Parked
+out_kept {old} {new} {reply} {mark} ticket end ruling is marked e =
+    (subst (Ended old new ticket (GivenUp why.NoMemory) (park_reply why.NoMemory)) marked (park-replied ticket why.NoMemory e), subst (λ d. EndsBy d (GivenUp why.NoMemory)) (sym is) refl)
+
+-- or isn't
+pub out_unkept : {old new : Known} {reply : Reply} {mark : Kept} (ticket : Flight) (end : Driven) (ruling : Ruling) → end ≡ driven.Ready ruling → BreaksFor true mark fault.NoMemory
+    → Ended old new ticket (GivenUp why.NoMemory) reply mark → Settles old new ticket end (outcome.Unkept fault.NoMemory)
+out_unkept {old} {new} {reply} {mark} ticket end ruling is breaks e =
+    (GivenUp why.NoMemory, reply, mark, e, subst (λ d. EndsBy d (GivenUp why.NoMemory)) (sym is) refl, breaks)
+
+pub breaks_out : (mark : Kept) → mark ≡ kept.Failed → BreaksFor true mark fault.NoMemory
+breaks_out mark is = subst (λ m. BreaksFor true m fault.NoMemory) (sym is) refl
+
+pub breaks_too : (mark : Kept) → mark ≡ kept.NoMemory → BreaksFor true mark fault.NoMemory
+breaks_too mark is = subst (λ m. BreaksFor true m fault.NoMemory) (sym is) refl
+
+-- who may finish a run may park it
+pub may_park : (known : Known) (ticket : Flight) (ruling : Ruling) (reason : Why) → MayDo known (act.Finish ticket ruling) → MayDo known (act.Park ticket reason)
+may_park known ticket ruling reason may = record { small = may.small; own = may.own; clock = tt }
+
+-- and whose call waits may finish its run
+pub may_finish : {old new : Known} {raw : Raw} {mark : Kept} (ticket : Flight) (ruling : Ruling) → Entered old new (act.Call raw) (answer.Wait ticket) mark → new.caller < 2 ^ 62
+    → MayDo new (act.Finish ticket ruling)
+may_finish {old} {new} {raw} {mark} ticket ruling e small =
+    let entries : entries_in new.front ≡ entries_in e.before ++ call_entry old.caller raw ∷ [] =
+    ap entries_in e.front ∙ map-append (λ (f : Filed). f.entry) e.before (filed old.caller (act.Call raw) mark ∷ []) in
+    record {
+      small = small;
+      own = subst (λ (s : Setup). Holds s (entries_in new.front) new.caller ticket) (sym e.same.setup)
+          (subst (λ (c : ℕ). Holds old.setup (entries_in new.front) c ticket) (sym e.same.caller)
+          (subst (λ (h : List Entry). Holds old.setup h old.caller ticket) (sym entries) e.answered.live));
+      clock = tt;
+    }
+
+-- whose call waits may park its run
+pub may_give_up : {old new : Known} {raw : Raw} {mark : Kept} (ticket : Flight) (reason : Why) → Entered old new (act.Call raw) (answer.Wait ticket) mark → new.caller < 2 ^ 62
+    → MayDo new (act.Park ticket reason)
+may_give_up {old} {new} {raw} {mark} ticket reason e small = may_park new ticket ruling.Approved reason (may_finish ticket ruling.Approved e small)
 
 -- ---- replies that are written
 

@@ -1,5 +1,5 @@
 -- Parts of a session, one more behind others.
-use Rattle.std.proofs.Common.{◌≡◌, ◌≢◌, ℕ, zero, suc, ◌+◌, ◌∷◌, ◌++◌, false, List, [], length, Option, Some, None, refl, sym, ap, ◌∙◌, subst, append_assoc, arith}
+use Rattle.std.proofs.Common.{◌≡◌, ◌≢◌, ℕ, zero, suc, ◌+◌, ◌∷◌, ◌++◌, true, false, List, [], length, Option, Some, None, refl, sym, ap, ◌∙◌, subst, append_assoc, arith}
 use Rattle.std.proofs.lemmas.List.{append-nil, map-append}
 use Rattle.std.proofs.lemmas.Grind.{flat_map-append}
 use Rattle.ph_base.specs.Counts.{Rose}
@@ -19,6 +19,7 @@ use Rattle.ph_http.specs.declared.message.Reply.{Reply}
 use Rattle.ph_book.specs.declared.hosted.Kept.{Kept}
 use Rattle.ph_book.specs.declared.hosted.Kept.TheVariants as kept
 use Rattle.ph_book.specs.declared.setup.Setup.{Setup}
+use Rattle.ph_book.specs.Answers.{is_ruled}
 use Rattle.ph_book.specs.Entries.{call_entry}
 use Rattle.ph_book.specs.Replies.{Said, Replies, Waits, Silence, park_reply}
 use Rattle.ph_conn.specs.Fronts.{Filed, Known, said_behind}
@@ -194,8 +195,12 @@ no_memory_status : (park_reply why.NoMemory).status ≡ 503
 unfolding error_of
 no_memory_status = refl
 
+-- a reply to a ruling is no reply to a park
+ruled_is_no_park : (status : ℕ) → is_ruled status ≡ true → status ≢ 500
+ruled_is_no_park status ruled is = let both : is_ruled 500 ≡ true = ap is_ruled (sym is) ∙ ruled in cc
+
 ending-answered : (ending : Ending) (reply : Reply) → IsReplyOf ending reply → failures_in ending ≡ 0 → refusals_in ending ≡ 0 → reply.status ≢ 500
-ending-answered (Settled ruling) reply is failed refused = is
+ending-answered (Settled ruling) reply is failed refused = ruled_is_no_park reply.status is
 ending-answered (GivenUp why.Pending) reply is failed refused = absurd (omega (arith, refused))
 ending-answered (GivenUp why.Failed) reply is failed refused = absurd (omega (arith, failed))
 ending-answered (GivenUp why.NoMemory) reply is failed refused =

@@ -129,7 +129,8 @@ fn settle<D: Desk>(desk: &D, held: &mut D::Held, ticket: Ticket, driven: Driven)
                 let (_, kept) = park(desk, held, ticket, Why::NoMemory);
                 match kept {
                     Kept::Yes => Outcome::Parked,
-                    Kept::Failed | Kept::NoMemory => Outcome::Unkept(TalkError::NoMemory),
+                    Kept::Failed => Outcome::Unkept(TalkError::NoMemory),
+                    Kept::NoMemory => Outcome::Unkept(TalkError::NoMemory),
                 }
             }
         },
