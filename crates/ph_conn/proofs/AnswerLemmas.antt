@@ -324,7 +324,7 @@ pub came_back : {old middle new : Known} {reply : Reply} {mark : Kept} (back tic
     → Ended old new ticket (GivenUp reason) reply mark
 came_back {old} {middle} {new} {reply} {mark} back ticket reason same saw e =
     subst (λ (t : Flight). Ended old new t (GivenUp reason) reply mark) same
-    (saw_then_entered {old} {middle} {new} {act.Park back reason} {answer.Reply reply} {mark} saw e)
+    (saw_then_entered {act = act.Park back reason} {given = answer.Reply reply} saw e)
 
 -- for want of memory for its ruling a run was given up, and that is kept
 pub out_kept : {old new : Known} {reply : Reply} {mark : Kept} (ticket : Flight) (end : Driven) (ruling : Ruling) → end ≡ driven.Ready ruling → mark ≡ kept.Yes

@@ -15,14 +15,16 @@ use Rattle.ph_book.specs.declared.hosted.Kept.TheVariants as kept
 use Rattle.ph_book.specs.declared.setup.Setup.{Setup}
 use Rattle.ph_book.specs.Callers.{caller_of}
 use Rattle.ph_book.specs.Entries.{deed_of, entry_of}
-use Rattle.ph_book.specs.History.{Happening, and_then}
+use Rattle.ph_book.specs.Answers.{HasStatus, IsAnswerTo, Says}
+use Rattle.ph_book.specs.History.{Happening, and_then, said_to}
 use Rattle.ph_book.specs.Hosts.{Allows, Answers}
-use Rattle.ph_book.specs.Legal.{AreAllowed, IsLegal}
+use Rattle.ph_book.specs.Legal.{AreAllowed, IsLegal, is_full}
 use Rattle.ph_book.specs.OwnRuns.{RunsAfter, own_of}
 use Rattle.ph_book.specs.State.{BookState, entered}
+use Rattle.ph_book.specs.Tickets.{HandsOut}
 use Rattle.ph_book.specs.Stays.{own_stays}
 use Rattle.ph_book.proofs.OwnRunLemmas.{runs_after}
-use Rattle.ph_conn.specs.Fronts.{Filed, Known, IsSame, KeepsLive, OnlySaw, Entered, entries_in, filed, filed_as, kept_entry, known_alone, known_by, known_at, live_in, placed_as, placed_from}
+use Rattle.ph_conn.specs.Fronts.{Filed, Known, IsSame, KeepsLive, OnlySaw, Entered, entries_in, filed, filed_as, kept_entry, known_alone, known_by, known_at, live_in, MayDo, placed_as, placed_from}
 use Rattle.ph_conn.proofs.FrontLemmas.{starts-itself}
 use Rattle.ph_conn.proofs.PlaceLemmas.{fresh-place}
 
@@ -38,7 +40,7 @@ legal-front setup front more legal = record { opened = legal.opened; allowed = a
 
 -- ---- a book alone
 
-entries-kept : (history : List Entry) → entries_in (map kept_entry history) ≡ history
+pub entries-kept : (history : List Entry) → entries_in (map kept_entry history) ≡ history
 entries-kept [] = refl
 entries-kept (entry ∷ history) = ap (λ (h : List Entry). entry ∷ h) (entries-kept history)
 
@@ -94,6 +96,23 @@ saw_alone old new is legal = record {
   live = λ run. ap (λ (b : BookState). live_in (known_alone b) run) is;
 }
 
+-- the answer to an act, by the clauses of a book
+pub answered_alone : (old new : BookState) (a : Act) (given : Answer) → new ≡ entered old (entry_of 0 a) → Says (length old.history + 1) 0 (said_to old.setup old.history (entry_of 0 a)) given
+    → IsAnswerTo (deed_of a) given → HasStatus given → HandsOut new.setup new.history 0 given → Answers old.setup old.history (entry_of 0 a) given
+answered_alone old new a given is says kind status live = record {
+  says = says;
+  kind = kind;
+  status = status;
+  live = subst (λ (b : BookState). HandsOut b.setup b.history 0 given) is live;
+}
+
+-- the book that is as it was has no room for the act that was refused as full
+pub full_alone : (old new : BookState) (a : Act) → new ≡ old → IsTrue (is_full old.setup old.history (deed_of a))
+    → IsTrue (is_full new.setup (entries_in (map kept_entry new.history)) (deed_of a))
+full_alone old new a is full =
+    subst (λ (h : List Entry). IsTrue (is_full new.setup h (deed_of a))) (sym (entries-kept new.history))
+    (subst (λ (b : BookState). IsTrue (is_full b.setup b.history (deed_of a))) (sym is) full)
+
 -- ---- by a pass
 
 module _ {E Base : Type 0} (setup : Base → Setup) (plain : E → Entry) (mark : E → Kept) where
@@ -101,6 +120,21 @@ module _ {E Base : Type 0} (setup : Base → Setup) (plain : E → Entry) (mark 
   pub entries-plain : (front : List E) → entries_in (map (filed_as setup plain mark) front) ≡ map plain front
   entries-plain [] = refl
   entries-plain (e ∷ front) = ap (λ (h : List Entry). plain e ∷ h) (entries-plain front)
+
+  -- what is known by a pass is legal
+  pub pass-legal : (pass : Shown E Base) → IsLegal (setup pass.base) (map plain pass.front) → IsLegal (setup pass.base) (entries_in (map (filed_as setup plain mark) pass.front))
+  pass-legal pass legal = subst (IsLegal (setup pass.base)) (sym (entries-plain pass.front)) legal
+
+  -- what may be done, said of the book's entries
+  pub may_by : (pass : Shown E Base) (a : Act) → MayDo (known_by setup plain mark pass) a → Allows (setup pass.base) (map plain pass.front) pass.caller a
+  may_by pass a may = subst (λ (h : List Entry). Allows (setup pass.base) h pass.caller a) (entries-plain pass.front) may
+
+  pub may_again : (pass : Shown E Base) (a : Act) → Allows (setup pass.base) (map plain pass.front) pass.caller a → MayDo (known_by setup plain mark pass) a
+  may_again pass a may = subst (λ (h : List Entry). Allows (setup pass.base) h pass.caller a) (sym (entries-plain pass.front)) may
+
+  pub full_by : (pass : Shown E Base) (a : Act) → IsTrue (is_full (setup pass.base) (map plain pass.front) (deed_of a))
+      → IsTrue (is_full (setup pass.base) (entries_in (map (filed_as setup plain mark) pass.front)) (deed_of a))
+  full_by pass a full = subst (λ (h : List Entry). IsTrue (is_full (setup pass.base) h (deed_of a))) (sym (entries-plain pass.front)) full
 
   starts-filed : (front seen : List E) → StartsWith front seen → StartsWith (map (filed_as setup plain mark) front) (map (filed_as setup plain mark) seen)
   starts-filed front seen s =

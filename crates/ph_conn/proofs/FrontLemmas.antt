@@ -6,7 +6,7 @@ use Rattle.ph_book.specs.declared.acts.Act.{Act}
 use Rattle.ph_book.specs.declared.acts.Answer.{Answer}
 use Rattle.ph_book.specs.declared.hosted.Kept.{Kept}
 use Rattle.ph_book.specs.declared.setup.Setup.{Setup}
-use Rattle.ph_conn.specs.Fronts.{Filed, Known, IsSame, KeepsLive, OnlySaw, Entered}
+use Rattle.ph_conn.specs.Fronts.{Filed, Known, IsSame, KeepsLive, OnlySaw, Entered, filed}
 
 pub starts-itself : {E : Type 0} (xs : List E) → StartsWith xs xs
 starts-itself xs = ([], sym (append-nil xs))
@@ -38,7 +38,7 @@ saw_then_entered {old} {middle} {new} {act} {given} {mark} saw entered =
       seen = starts-twice old.front middle.front e.before saw.front e.seen;
       live = λ run. e.live run ∙ kept run;
       front = e.front;
-      mine = e.mine ∙ ap (λ (own : List (ℕ × Filed)). own ++ (length e.before + 1, _) ∷ []) saw.mine;
+      mine = e.mine ∙ ap (λ (own : List (ℕ × Filed)). own ++ (length e.before + 1, filed old.caller act mark) ∷ []) saw.mine;
       answered = e.answered;
       runs = e.runs;
       fresh = e.fresh;

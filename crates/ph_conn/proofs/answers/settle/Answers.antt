@@ -1,6 +1,8 @@
 use Rattle.std.proofs.Common.{refl, sym, subst}
 use Rattle.ph_base.specs.declared.acquirer.Ruling.TheVariants as ruling
 use Rattle.ph_base.specs.declared.acquirer.Why.TheVariants as why
+use Rattle.ph_book.specs.declared.acts.Act.TheVariants as act
+use Rattle.ph_conn.specs.Fronts.{MayDo}
 use Rattle.ph_conn.specs.Parts.{EndsBy, Settled, GivenUp}
 use Rattle.ph_conn.proofs.AnswerLemmas.{breaks_out, breaks_too, came_back, may_park, out_kept, out_unkept, settled_as}
 use Rattle.ph_conn.proofs.answers.settle.Goals as goal
@@ -9,13 +11,15 @@ pub finish-requires-clause-own : goal.finish-requires-clause-own
 finish-requires-clause-own g c = c.requires.own c.in-Ready.ruling
 
 pub park-kept-requires-clause-own : goal.park-kept-requires-clause-own
-park-kept-requires-clause-own g c = may_park _ _ c.in-Ready.ruling why.NoMemory c.in-Err.ensures.still
+park-kept-requires-clause-own g c =
+    subst (λ t. MayDo (g.D.Desk.known c.finish.new.held) (act.Park t why.NoMemory)) (sym c.in-Err.ensures.finishes.0)
+    (may_park (g.D.Desk.known c.finish.new.held) c.args.ticket c.in-Ready.ruling why.NoMemory c.in-Err.ensures.still)
 
 pub park-reply-requires-clause-own : goal.park-reply-requires-clause-own
-park-reply-requires-clause-own g c = may_park _ c.args.ticket ruling.Approved why.Failed (c.requires.own ruling.Approved)
+park-reply-requires-clause-own g c = may_park (g.D.Desk.known c.args.held.now) c.args.ticket ruling.Approved why.Failed (c.requires.own ruling.Approved)
 
 pub park-reply-requires-in-GaveUp-clause-own : goal.park-reply-requires-in-GaveUp-clause-own
-park-reply-requires-in-GaveUp-clause-own g c = may_park _ c.args.ticket ruling.Approved why.Pending (c.requires.own ruling.Approved)
+park-reply-requires-in-GaveUp-clause-own g c = may_park (g.D.Desk.known c.args.held.now) c.args.ticket ruling.Approved why.Pending (c.requires.own ruling.Approved)
 
 pub returns-in-Ok-clause-settles : goal.returns-in-Ok-clause-settles
 returns-in-Ok-clause-settles g c =
