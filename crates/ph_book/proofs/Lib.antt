@@ -14,5 +14,4 @@ pub mod LookLemmas
 pub mod OwnRunLemmas
 pub mod GrowthLemmas
 pub mod HostLemmas
-pub mod ObjectLemmas
 pub mod RunLemmas

@@ -72,15 +72,15 @@ called_own past does caller place Silence run steps speaks = absurd (speaks refl
 
 -- ---- the ends of runs
 
+both_same : (b : Bool) (found : Option Flight) → found ≡ cond b found found
+both_same true found = refl
+both_same false found = refl
+
 -- a caller's live runs after an end of the one that has this number
 own_ended : (past : List Doing) (flight : Flight) (caller number run : ℕ) (here : Run) → live_run past run ≡ here
     → ((other : Flight) → here ≡ Flies other → other.run ≡ run) → flight.run ≡ number → flight.caller ≡ caller
     → if_own caller (ended_by flight here) ≡ cond (run == number) None (if_own caller here)
-own_ended past flight caller number run NoRun is numbered at own = none_both (run == number)
-  where
-    none_both : (b : Bool) → None ≡ cond b None None
-    none_both true = refl
-    none_both false = refl
+own_ended past flight caller number run NoRun is numbered at own = both_same (run == number) None
 own_ended past flight caller number run (Flies other) is numbered at own = by_number (run == number) refl
   where
     its : other.run ≡ run
@@ -114,57 +114,55 @@ no_end past caller number run none = at (run == number) refl
     at false e = sym (ap (λ b. cond b None (own_run past caller run)) e)
 
 module _ (setup : Setup) (history : List Entry) (few : setup.entries < 2 ^ 32) (legal : IsLegal setup history) where
-  past : List Doing
-  past = doings_of setup history
-
-  lawful : IsLawful past
+  lawful : IsLawful (doings_of setup history)
   lawful = (history_stands setup history few legal).lawful
 
   -- after the end of its live run of a number
-  ended_own : (caller number run : ℕ) (flight : Flight) (does : Doing) → own_run past caller number ≡ Some flight
-      → ((n : ℕ) → live_run (does ∷ past) n ≡ ended_by flight (live_run past n))
-      → own_run (does ∷ past) caller run ≡ after_end number run (own_run past caller run)
+  ended_own : (caller number run : ℕ) (flight : Flight) (does : Doing) → own_run (doings_of setup history) caller number ≡ Some flight
+      → ((n : ℕ) → live_run (does ∷ doings_of setup history) n ≡ ended_by flight (live_run (doings_of setup history) n))
+      → own_run (does ∷ doings_of setup history) caller run ≡ after_end number run (own_run (doings_of setup history) caller run)
   ended_own caller number run flight does own ends =
-      let it = own_is past caller number flight lawful own in
+      let it = own_is (doings_of setup history) caller number flight lawful own in
       ap (if_own caller) (ends run)
-      ∙ own_ended past flight caller number run (live_run past run) refl (λ other live. (live_is_run past lawful).number run other live) it.1.0 it.1.1
+      ∙ own_ended (doings_of setup history) flight caller number run (live_run (doings_of setup history) run) refl (λ other live. (live_is_run (doings_of setup history) lawful).number run other live) it.1.0 it.1.1
 
-  finished_own : (caller number run : ℕ) (ruling : Ruling) (found : Option Flight) → own_run past caller number ≡ found
-      → own_run ((effect_to setup history (record { caller = caller; deed = deed.Finish number ruling })).doing ∷ past) caller run
-      ≡ after_end number run (own_run past caller run)
+  finished_own : (caller number run : ℕ) (ruling : Ruling) (found : Option Flight) → own_run (doings_of setup history) caller number ≡ found
+      → own_run ((effect_to setup history (record { caller = caller; deed = deed.Finish number ruling })).doing ∷ doings_of setup history) caller run
+      ≡ after_end number run (own_run (doings_of setup history) caller run)
   finished_own caller number run ruling None own =
-      ap (λ d. own_run (d ∷ past) caller run) (no_finish setup history caller number ruling own) ∙ no_end past caller number run own
+      ap (λ d. own_run (d ∷ doings_of setup history) caller run) (no_finish setup history caller number ruling own) ∙ no_end (doings_of setup history) caller number run own
   finished_own caller number run ruling (Some flight) own =
-      let it = own_is past caller number flight lawful own in
+      let it = own_is (doings_of setup history) caller number flight lawful own in
       let does = finish_does setup history caller flight ruling few legal (run_held setup history caller flight it.0 it.1.1) in
-      ap (λ n. own_run ((effect_to setup history (record { caller = caller; deed = deed.Finish n ruling })).doing ∷ past) caller run) (sym it.1.0)
-      ∙ ap (λ d. own_run (d ∷ past) caller run) does.2
+      ap (λ n. own_run ((effect_to setup history (record { caller = caller; deed = deed.Finish n ruling })).doing ∷ doings_of setup history) caller run) (sym it.1.0)
+      ∙ ap (λ d. own_run (d ∷ doings_of setup history) caller run) does.2
       ∙ ended_own caller number run flight (Settles does.0 flight does.1 ruling) own (λ n. refl)
 
-  parked_own : (caller number run : ℕ) (why : Why) (found : Option Flight) → own_run past caller number ≡ found
-      → own_run ((effect_to setup history (record { caller = caller; deed = deed.Park number why })).doing ∷ past) caller run
-      ≡ after_end number run (own_run past caller run)
+  parked_own : (caller number run : ℕ) (why : Why) (found : Option Flight) → own_run (doings_of setup history) caller number ≡ found
+      → own_run ((effect_to setup history (record { caller = caller; deed = deed.Park number why })).doing ∷ doings_of setup history) caller run
+      ≡ after_end number run (own_run (doings_of setup history) caller run)
   parked_own caller number run why None own =
-      ap (λ d. own_run (d ∷ past) caller run) (no_park setup history caller number why own) ∙ no_end past caller number run own
+      ap (λ d. own_run (d ∷ doings_of setup history) caller run) (no_park setup history caller number why own) ∙ no_end (doings_of setup history) caller number run own
   parked_own caller number run why (Some flight) own =
-      let it = own_is past caller number flight lawful own in
+      let it = own_is (doings_of setup history) caller number flight lawful own in
       let does = park_does setup history caller flight why few legal (run_held setup history caller flight it.0 it.1.1) in
-      ap (λ n. own_run ((effect_to setup history (record { caller = caller; deed = deed.Park n why })).doing ∷ past) caller run) (sym it.1.0)
-      ∙ ap (λ d. own_run (d ∷ past) caller run) does.1
+      ap (λ n. own_run ((effect_to setup history (record { caller = caller; deed = deed.Park n why })).doing ∷ doings_of setup history) caller run) (sym it.1.0)
+      ∙ ap (λ d. own_run (d ∷ doings_of setup history) caller run) does.1
       ∙ ended_own caller number run flight (Parks does.0 flight) own (λ n. refl)
 
   -- after a deed of its own
-  own_done : (caller run : ℕ) (d : Deed) → own_run ((effect_to setup history (record { caller = caller; deed = d })).doing ∷ past) caller run
-      ≡ after_deed caller (length history + 1) d (said_to setup history (record { caller = caller; deed = d })) run (own_run past caller run)
+  own_done : (caller run : ℕ) (d : Deed) → own_run ((effect_to setup history (record { caller = caller; deed = d })).doing ∷ doings_of setup history) caller run
+      ≡ after_deed caller (length history + 1) d (said_to setup history (record { caller = caller; deed = d })) run (own_run (doings_of setup history) caller run)
   own_done caller run (deed.Call raw) =
-      called_own past (effect_to setup history (call_entry caller raw)).doing caller (length history + 1) (said_to setup history (call_entry caller raw)) run
+      called_own (doings_of setup history) (effect_to setup history (call_entry caller raw)).doing caller (length history + 1) (said_to setup history (call_entry caller raw)) run
       (call_steps_to setup history caller raw few legal) (λ silent. subst IsServedOrWaits silent (said_to_call setup history caller raw few legal))
-  own_done caller run (deed.Finish number ruling) = finished_own caller number run ruling (own_run past caller number) refl
-  own_done caller run (deed.Park number why) = parked_own caller number run why (own_run past caller number) refl
-  own_done caller run (deed.Tick moment) = ap (λ d. own_run (d ∷ past) caller run) (tick_does setup history caller moment)
+  own_done caller run (deed.Finish number ruling) = finished_own caller number run ruling (own_run (doings_of setup history) caller number) refl
+  own_done caller run (deed.Park number why) = parked_own caller number run why (own_run (doings_of setup history) caller number) refl
+  own_done caller run (deed.Tick moment) = ap (λ d. own_run (d ∷ doings_of setup history) caller run) (tick_does setup history caller moment)
 
   -- what an entry does to the live runs of each caller
   pub runs_after : (entry : Entry) → RunsAfter setup history entry
+  unfolding effect_to
   runs_after entry = record {
     own = λ run. ap (λ doings. own_run doings entry.caller run) (doings_grow setup history entry) ∙ own_done entry.caller run entry.deed;
     others = λ caller run apart. own_stays setup history (entry ∷ []) caller run (apart, tt);
