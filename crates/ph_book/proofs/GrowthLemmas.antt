@@ -1,18 +1,17 @@
 -- A history that grows: what has no room stays without, and what begins a legal one is legal.
-use Rattle.std.proofs.Common.{◌≡◌, ℕ, suc, ◌+◌, ◌^◌, ◌<◌, ◌≤◌, ◌∷◌, ◌++◌, ◌||◌, Bool, true, false, nat_lt, List, [], length, sym, ap, ◌∙◌, subst, length-append, arith}
+use Rattle.std.proofs.Common.{◌≡◌, ℕ, ◌+◌, ◌^◌, ◌<◌, ◌≤◌, ◌∷◌, ◌++◌, true, List, [], length, ap, ◌∙◌, length-append, arith}
 use Rattle.std.specs.List.{fold}
 use Rattle.std.proofs.lemmas.Bool.Decides.{nat_tests}
 use Rattle.std.proofs.lemmas.List.Sums.{fold-append}
 use Rattle.ph_doings.specs.Doings.{Doing, Leaves, Puts, Edits, Begins, Resumes, Parks, Settles}
-use Rattle.ph_doings.specs.Lawful.{IsLawful}
-use Rattle.ph_doings.specs.Runs.{live_runs, runs_begun, runs_ended}
+use Rattle.ph_doings.specs.Runs.{live_runs, runs_ended}
 use Rattle.ph_doings.proofs.Counted.{runs_are_counted}
 use Rattle.ph_book.specs.declared.setup.Setup.{Setup}
 use Rattle.ph_book.specs.declared.acts.Deed.{Deed}
 use Rattle.ph_book.specs.declared.acts.Deed.TheVariants as deed
 use Rattle.ph_book.specs.declared.acts.Entry.{Entry}
 use Rattle.ph_book.specs.History.{Happening, and_then, doings_after, effect_after, happening_of, past_of}
-use Rattle.ph_book.specs.Legal.{AreAllowed, IsAllowed, IsLegal, deed_weight, is_full, is_full_after, is_full_at, used_after, weight_after}
+use Rattle.ph_book.specs.Legal.{AreAllowed, IsAllowed, IsLegal, is_full, is_full_after, is_full_at, used_after, weight_after}
 use Rattle.ph_book.specs.Stays.{doings_more}
 use Rattle.ph_book.proofs.EffectLemmas.{Comes, effect_comes}
 use Rattle.ph_book.proofs.HistoryLemmas.{weight_more}

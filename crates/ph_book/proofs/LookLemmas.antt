@@ -1,5 +1,5 @@
 -- An attempt is parked exactly where one of those that a book keeps is.
-use Rattle.std.proofs.Common.{◌≡◌, ℕ, ◌↔◌, Bool, true, false, List, [], ◌∷◌, Option, Some, None, is_some, refl, sym, ap, ◌∙◌, subst, find, option_map, arith}
+use Rattle.std.proofs.Common.{◌≡◌, ℕ, ◌↔◌, Bool, true, false, List, [], ◌∷◌, Option, Some, None, is_some, refl, sym, ap, ◌∙◌, subst}
 use Rattle.ph_attempts.specs.Attempts.{first_parked, parked_in}
 use Rattle.ph_attempts.specs.declared.flights.Attempt.{Attempt}
 use Rattle.ph_attempts.specs.declared.flights.Attempt.TheVariants.{Live, Parked}
@@ -8,9 +8,8 @@ use Rattle.ph_doings.specs.Doings.{Doing}
 use Rattle.ph_doings.specs.Kept.{attempts_after}
 use Rattle.ph_doings.specs.Lawful.{IsLawful}
 use Rattle.ph_doings.specs.Laws.{FirstOf}
-use Rattle.ph_doings.specs.Parks.{first_in, first_parked as earliest, parked_attempts}
-use Rattle.ph_doings.specs.Standings as standing
-use Rattle.ph_doings.specs.Standings.{is_parked, standing_of}
+use Rattle.ph_doings.specs.Parks.{first_in, first_parked as earliest}
+use Rattle.ph_doings.specs.Standings.{is_parked}
 use Rattle.ph_doings.proofs.KeptLists.{attempts_are_unsettled}
 use Rattle.ph_doings.proofs.Queue.{first_parked_is_earliest}
 use Rattle.ph_rows.specs.declared.rows.Row.{Row}
