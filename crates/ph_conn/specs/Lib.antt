@@ -8,4 +8,5 @@ pub mod Served
 pub mod Sends
 pub mod Steps
 pub mod Session
+pub mod Laws
 pub mod Texts

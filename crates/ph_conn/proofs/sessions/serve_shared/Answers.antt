@@ -2,6 +2,7 @@ use Rattle.std.proofs.Common.{◌<◌, ◌^◌, refl, sym, ap, subst, ◌∙◌,
 use Rattle.ph_conn.specs.Fronts.{known_by}
 use Rattle.ph_conn.specs.Grows.{grown_further, grown_stays}
 use Rattle.ph_conn.proofs.DeskLemmas.{pass-legal}
+use Rattle.ph_conn.proofs.LawLemmas.{authorised_once, laws_hold}
 use Rattle.ph_conn.proofs.SessionLemmas.{begins, closes_known, follows_on, stops_limit}
 use Rattle.ph_conn.proofs.sessions.serve_shared.Goals as goal
 
@@ -35,6 +36,17 @@ returns-in-Some-clause-session g c =
     (ap (λ b. b.sink) (sym (laws.read_keeps read) ∙ c.fetch-fetched.ensures.beside ∙ laws.read_keeps c.loop-i.conn))
     (ap (λ b. b.source) (sym (laws.write_keeps wrote) ∙ c.in-Some.ensures.beside ∙ laws.write_keeps read))
 
+pub returns-in-Some-clause-laws : goal.returns-in-Some-clause-laws
+returns-in-Some-clause-laws g c =
+    let legal = c.in-Some.ensures.fits.is_pass.legal in
+    laws_hold _ _ (g.met.O.Hosted.few c.step.new.held.base c.step.new.held.front legal) (g.met.O.Hosted.legality c.step.new.held.base c.step.new.held.front legal)
+
+pub returns-in-Some-clause-authorised_once : goal.returns-in-Some-clause-authorised_once
+returns-in-Some-clause-authorised_once g c =
+    let legal = c.in-Some.ensures.fits.is_pass.legal in
+    authorised_once _ (g.A.Acquirer.link c.step.new.link)
+    (laws_hold _ _ (g.met.O.Hosted.few c.step.new.held.base c.step.new.held.front legal) (g.met.O.Hosted.legality c.step.new.held.base c.step.new.held.front legal)).all_but_the_last_were_challenged
+
 pub loop-i-preserved : goal.loop-i-preserved
 loop-i-preserved g c =
     let laws = g.met.C.Duplex in
@@ -52,3 +64,14 @@ loop-i-preserved g c =
 
 pub returns-clause-session : goal.returns-clause-session
 returns-clause-session g c = stops_limit c.loop-i.i c.closed.result c.closed.ensures c.loop-i-test.false (omega arith) c.loop-i.invariant.serving
+
+pub returns-clause-laws : goal.returns-clause-laws
+returns-clause-laws g c =
+    let legal = c.loop-i.invariant.fits.is_pass.legal in
+    laws_hold _ _ (g.met.O.Hosted.few c.loop-i.pass.base c.loop-i.pass.front legal) (g.met.O.Hosted.legality c.loop-i.pass.base c.loop-i.pass.front legal)
+
+pub returns-clause-authorised_once : goal.returns-clause-authorised_once
+returns-clause-authorised_once g c =
+    let legal = c.loop-i.invariant.fits.is_pass.legal in
+    authorised_once _ (g.A.Acquirer.link c.loop-i.link)
+    (laws_hold _ _ (g.met.O.Hosted.few c.loop-i.pass.base c.loop-i.pass.front legal) (g.met.O.Hosted.legality c.loop-i.pass.base c.loop-i.pass.front legal)).all_but_the_last_were_challenged
