@@ -40,14 +40,14 @@ and_right false b e = absurd (cc)
 -- a test that all of a list pass, one of it passes
 all-at : (test : ℕ → Bool) (x : ℕ) (xs : List ℕ) → list_all test xs ≡ true → list_any (λ other. other == x) xs ≡ true → test x ≡ true
 all-at test x [] all any = absurd (cc)
-all-at test x (y ∷ xs) all any = at (y == x) refl any
+all-at test x (y ∷ xs) all any = at (y == x) refl any (all-at test x xs (and_right (test y) (list_all test xs) all))
   where
-    at : (b : Bool) → (y == x) ≡ b → (b || list_any (λ other. other == x) xs) ≡ true → test x ≡ true
-    at true same any = ap test (sym (eqb-true y x same)) ∙ and_left (test y) (list_all test xs) all
-    at false apart any = all-at test x xs (and_right (test y) (list_all test xs) all) any
+    at : (b : Bool) → (y == x) ≡ b → (b || list_any (λ other. other == x) xs) ≡ true → (list_any (λ other. other == x) xs ≡ true → test x ≡ true) → test x ≡ true
+    at true same any behind = ap test (sym (eqb-true y x same)) ∙ and_left (test y) (list_all test xs) all
+    at false apart any behind = behind any
 
 -- the first of a list, which is its only member that isn't among all but the first
-first_of : List ℕ → ℕ
+abbrev first_of : List ℕ → ℕ
 first_of [] = 0
 first_of (x ∷ xs) = x
 
