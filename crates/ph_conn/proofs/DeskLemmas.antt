@@ -1,14 +1,12 @@
 -- What acts leave of what is known: of a book alone, and by a pass of a lock.
-use Rattle.std.proofs.Common.{◌≡◌, ◌≢◌, ℕ, zero, suc, ◌+◌, ◌^◌, ◌<◌, ◌≤◌, ◌∷◌, ◌++◌, ◌↔◌, List, [], length, map, Option, Some, None, IsTrue, refl, sym, ap, ◌∙◌, subst, append_assoc, arith}
-use Rattle.std.proofs.lemmas.List.{append-nil, append_cancel_right, length-map, map-append}
-use Rattle.ph_attempts.specs.declared.flights.Flight.{Flight}
+use Rattle.std.proofs.Common.{◌≡◌, ℕ, ◌+◌, ◌^◌, ◌<◌, ◌∷◌, ◌++◌, List, [], length, map, IsTrue, refl, sym, ap, ◌∙◌, subst, arith}
+use Rattle.std.proofs.lemmas.List.{append_cancel_right, length-map, map-append}
 use Rattle.ph_lock.specs.Histories.{StartsWith, NoneOf, own_entries}
 use Rattle.ph_lock.specs.Passes.{Shown, IsPass, SamePass}
 use Rattle.ph_lock.specs.Passes as passes
 use Rattle.ph_lock.proofs.Owns as owns
 use Rattle.ph_book.specs.declared.acts.Act.{Act}
 use Rattle.ph_book.specs.declared.acts.Answer.{Answer}
-use Rattle.ph_book.specs.declared.acts.Deed.{Deed}
 use Rattle.ph_book.specs.declared.acts.Entry.{Entry}
 use Rattle.ph_book.specs.declared.hosted.Kept.{Kept}
 use Rattle.ph_book.specs.declared.hosted.Kept.TheVariants as kept
@@ -25,7 +23,7 @@ use Rattle.ph_book.specs.Tickets.{HandsOut}
 use Rattle.ph_book.specs.Stays.{own_stays}
 use Rattle.ph_book.proofs.GrowthLemmas.{legal_front}
 use Rattle.ph_book.proofs.OwnRunLemmas.{runs_after}
-use Rattle.ph_conn.specs.Fronts.{Filed, Known, IsSame, KeepsLive, OnlySaw, Entered, entries_in, filed, filed_as, kept_entry, known_alone, known_by, known_at, live_in, MayDo, placed_as, placed_from}
+use Rattle.ph_conn.specs.Fronts.{Filed, OnlySaw, Entered, entries_in, filed, filed_as, kept_entry, known_alone, known_by, live_in, MayDo, placed_as, placed_from}
 use Rattle.ph_conn.proofs.FrontLemmas.{starts-itself}
 use Rattle.ph_conn.proofs.PlaceLemmas.{fresh-place}
 

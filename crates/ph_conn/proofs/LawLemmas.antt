@@ -1,13 +1,12 @@
 -- The laws of the history that a session leaves.
-use Rattle.std.proofs.Common.{◌≡◌, ℕ, ◌^◌, ◌<◌, ◌==◌, ◌&&◌, ◌||◌, Bool, true, false, List, [], ◌∷◌, Option, Some, None, refl, sym, ap, ◌∙◌, subst}
+use Rattle.std.proofs.Common.{◌≡◌, ℕ, ◌^◌, ◌<◌, ◌==◌, ◌&&◌, ◌||◌, Bool, true, false, List, [], ◌∷◌, Option, Some, refl, sym, ap, ◌∙◌}
 use Rattle.std.specs.List.{list_all, list_any}
 use Rattle.std.proofs.lemmas.Bool.{eqb-true}
 use Rattle.ph_base.specs.declared.acquirer.Ruling.{Ruling}
 use Rattle.ph_base.specs.declared.acquirer.Ruling.TheVariants as ruling
-use Rattle.ph_items.specs.declared.orders.Order.{Order}
 use Rattle.ph_doings.specs.Confirmations.{all_but_first, attempts_of_confirmation}
 use Rattle.ph_doings.specs.Doings.{Doing}
-use Rattle.ph_doings.specs.Standings.{State, Live, Parked, Settled, Standing, NotBegun, Stands, is_challenged, standing_of}
+use Rattle.ph_doings.specs.Standings.{Live, Parked, Settled, Standing, NotBegun, Stands, is_challenged, standing_of}
 use Rattle.ph_doings.proofs.LawProofs.{all_but_the_last_were_challenged, processing_has_one_attempt, references_differ}
 use Rattle.ph_bank.specs.Links.{Link}
 use Rattle.ph_book.specs.declared.setup.Setup.{Setup}
