@@ -11,7 +11,7 @@ use Rattle.ph_idem.specs.declared.found.Found.{Found as IdemFound}
 use Rattle.ph_idem.specs.declared.found.Found.TheVariants as idem
 use Rattle.ph_idem.specs.declared.key_record.KeyRecord.{KeyRecord}
 use Rattle.ph_idem.specs.declared.key_record.Saved.{Saved}
-use Rattle.ph_idem.specs.Records.{found_in, opened_record, saved_in, with_reference, with_result}
+use Rattle.ph_idem.specs.Records.{found_in, is_entry, opened_record, saved_in, update_first, with_reference, with_result}
 use Rattle.ph_items.specs.declared.attempts.Attempt.{Attempt}
 use Rattle.ph_items.specs.declared.attempts.AttemptState.{AttemptState}
 use Rattle.ph_items.specs.declared.attempts.AttemptState.TheVariants as state
@@ -62,7 +62,13 @@ abbrev pub begun_records : Option Asked → ℕ → ℕ → ℕ → List KeyReco
 begun_records None entry at reference records = records
 begun_records (Some asked) entry at reference records = with_reference reference (opened_record asked entry at) ∷ records
 
--- what it weighs
+-- the records with a reply of a status saved for the call of one of them
+abbrev pub saved_records : ℕ → Option Saving → List KeyRecord → List KeyRecord
+saved_records status None records = records
+saved_records status (Some saving) records =
+    update_first (is_entry saving.entry) (with_result (record { status = status; body = saving.body })) records
+
+-- what it weighs that a reply is saved
 abbrev pub saving_weight : Option Saving → ℕ
 saving_weight None = 0
 saving_weight (Some saving) = length saving.body
@@ -136,25 +142,26 @@ pub record IsAnswered (opened : Option Asked) (effect : Effect) (reply : Reply) 
   pub now : effect.now ≡ now
   pub opening : opening ≡ opening_of opened reply
 
--- an effect is that of a call that waits, and opens a record of this or none
-pub record IsWaiting (opened : Option Asked) (effect : Effect) (order : Order) (rows : List Row) (now : ℕ) (asked : Option Asked) : Type 0 where
+-- an effect is that of a call that waits by itself: where it asks something under a key, it opens a record of that
+pub record IsWaiting (asks opened : Option Asked) (effect : Effect) (order : Order) (rows : List Row) (now : ℕ) (asked : Option Asked) : Type 0 where
+  pub itself : opened ≡ asks
   pub said : effect.said ≡ Waits order
   pub saves : effect.saves ≡ is_some opened
   pub rows : effect.rows ≡ rows
   pub now : effect.now ≡ now
   pub asked : asked ≡ opened
 
--- an effect is that of a call that takes the attempt of a reference up again, which is parked
-pub record IsResuming (rows : List Row) (now place caller : ℕ) (asked : Option Asked) (effect : Effect) (reference : ℕ) : Type 0 where
-  pub effect_is : effect ≡ outcome_effect (key_asked asked) false rows now place caller
+-- an effect is that the attempt of a reference, which is parked, is taken up again, under a key or none
+pub record IsResuming (rows : List Row) (now place caller : ℕ) (key : Option (List ℕ)) (effect : Effect) (reference : ℕ) : Type 0 where
+  pub effect_is : effect ≡ outcome_effect key false rows now place caller
       (resumed_outcome rows reference (empty_batch (length rows) now place))
   pub parked : is_row_parked (latest_of reference rows) ≡ true
 
 -- it is what a call comes to that asks this under a key, or has none, and opens a record of it or none, over rows at a time, as the entry of a place
 abbrev pub IsCalled : List Row → ℕ → ℕ → ℕ → Option Asked → Option Asked → Effect → Called → Type 0
 IsCalled rows now place caller asked opened effect (made.Answered reply made after opening) = IsAnswered opened effect reply made.items after opening
-IsCalled rows now place caller asked opened effect (made.Waiting order made of) = IsWaiting opened effect order made.items now of
-IsCalled rows now place caller asked opened effect (made.Resuming reference) = IsResuming rows now place caller asked effect reference
+IsCalled rows now place caller asked opened effect (made.Waiting order made of) = IsWaiting asked opened effect order made.items now of
+IsCalled rows now place caller asked opened effect (made.Resuming reference) = IsResuming rows now place caller (key_asked asked) effect reference
 
 -- an attempt that a record names isn't parked, by its last row
 pub record ServesLive (rows : List Row) (there : IdemFound) : Type 0 where

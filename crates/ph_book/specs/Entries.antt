@@ -51,6 +51,14 @@ IsWithinClock (deed.Park run why) = Unit {0}
 IsWithinClock deed.Resume = Unit {0}
 IsWithinClock (deed.Tick moment) = moment ≤ clock_limit
 
+-- an entry of this deed may take an attempt up again: a call, under its key, and the act that does so
+abbrev pub TakesUp : Deed → Type 0
+TakesUp (deed.Call raw) = Unit {0}
+TakesUp (deed.Finish run ruling) = ⊥
+TakesUp (deed.Park run why) = ⊥
+TakesUp deed.Resume = Unit {0}
+TakesUp (deed.Tick moment) = ⊥
+
 -- the act is never refused: a park has its room and its memory from the beginning of its run
 abbrev pub IsGranted : Act → Type 0
 IsGranted (act.Call raw) = ⊥

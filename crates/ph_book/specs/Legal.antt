@@ -43,6 +43,10 @@ abbrev pub weight_after : Setup → List Happening → ℕ
 weight_after setup past =
     sum_by (λ h. deed_weight h.entry.deed + saved_weight h.saves h.said) past + rows_weight (rows_after setup past)
 
+-- the weight of a history
+abbrev pub weight_of : Setup → List Entry → ℕ
+weight_of setup history = weight_after setup (past_of setup history)
+
 -- the places that are taken after what happened: each entry, and the end of each live run
 abbrev pub used_after : List Happening → ℕ
 used_after past = length past + length (live_runs (doings_after past))

@@ -28,13 +28,6 @@ after_deed caller place (deed.Park number why) said run had = after_end number r
 after_deed caller place deed.Resume said run had = after_call caller place said run had
 after_deed caller place (deed.Tick moment) said run had = had
 
--- the number of the run that a deed is to end
-abbrev pub ended_run : Deed → Option ℕ
-ended_run (deed.Call raw) = None
-ended_run (deed.Finish number ruling) = Some number
-ended_run (deed.Park number why) = Some number
-ended_run (deed.Tick moment) = None
-
 -- the live runs of a caller after a history
 abbrev pub own_of : Setup → List Entry → ℕ → ℕ → Option Flight
 own_of setup history caller run = own_run (doings_of setup history) caller run

@@ -8,20 +8,21 @@ ghost use Rattle.ph_book.specs.declared.acts.Deed.TheVariants as deed;
 ghost use Rattle.ph_book.specs.State.{BookState, entered};
 ghost use Rattle.ph_book.specs.Answers.{HasStatus, IsAnswerTo, IsNoPark, Says, is_ruled, replies_in};
 ghost use Rattle.ph_book.specs.Called.{IsCalled, IsOpening, IsResuming, asked_if};
-ghost use Rattle.ph_book.specs.Entries.{IsGranted, IsWithinClock, call_entry, deed_of, entry_of, finish_entry, park_entry, resume_entry, tick_entry};
+ghost use Rattle.ph_book.specs.Calls.{key_asked};
+ghost use Rattle.ph_book.specs.Entries.{IsGranted, IsWithinClock, TakesUp, call_entry, deed_of, entry_of, finish_entry, park_entry, resume_entry, tick_entry};
 ghost use Rattle.ph_book.specs.History.{deed_asks, effect_to, opening_row, replies_of, rows_of, said_to, time_of};
 ghost use Rattle.ph_book.specs.Queries.{Sees};
 ghost use Rattle.ph_book.specs.Replies.{Replies, Silence, Waits, park_reply};
 ghost use Rattle.ph_book.specs.Hosts.{IsLawful};
-ghost use Rattle.ph_book.specs.Legal.{is_full, IsLegal};
+ghost use Rattle.ph_book.specs.Legal.{deed_weight, is_full, IsLegal, weight_of};
 ghost use Rattle.ph_book.specs.OwnRuns.{RunsAfter};
 ghost use Rattle.ph_book.specs.Tickets.{HandsOut, Holds, SpendsOwn};
 
 use crate::acts::{Act, Answer, Deed, Entry, Query};
 use crate::calls::{Called, Opening, called_by};
 use crate::endings::{Ending, Saving, parked_row, resumed_row, settled};
-use crate::keeping::{keep, open};
-use crate::room::{later, one_less, push_row, take_room};
+use crate::keeping::{keep, open, save};
+use crate::room::{later, one_less, push_row, room_to_resume, take_room};
 use crate::setup::{Setup, few_entries};
 use crate::spares::{Spare, add_spare, take_spare};
 use crate::store::Store;
@@ -325,39 +326,52 @@ impl Book {
         Ok(ticket)
     }
 
-    // Takes room for the run that takes an attempt up again, and makes what its end needs. Gives what the book weighs
-    // with this weight more and the row that it adds.
-    fn room_to_resume(&mut self, weight: u64) -> Option<u64> {
+    // Enters a deed by which the parked attempt of a reference is taken up again, where the book with the deed weighs
+    // this.
+    fn take_up(
+        &mut self,
+        caller: u64,
+        deed: Deed,
+        reference: u64,
+        weight: u64,
+    ) -> Result<Ticket, Deed>
+        requires caller { caller < 2 ^ 62 }
+        requires kind { TakesUp deed }
+        requires room { is_full self.old.setup self.old.history deed ≡ false }
+        requires taken { IsResuming (rows_of self.old.setup self.old.history) (time_of self.old.setup self.old.history) (length self.old.history + 1) caller (key_asked (deed_asks self.old.setup deed)) (effect_to self.old.setup self.old.history (record { caller = caller; deed = deed })) reference }
+        requires weight { weight ≡ weight_of self.old.setup self.old.history + deed_weight deed }
+        ensures entry { OnOk result (self.new ≡ entered self.old (record { caller = caller; deed = deed })) }
+        ensures answer { IfOk result (λ ticket. said_to self.old.setup self.old.history (record { caller = caller; deed = deed }) ≡ Waits ticket.order) }
+        ensures ticket { IfOk result (λ ticket. ticket ≡ record { caller = caller; run = length self.old.history + 1; order = ticket.order }) }
+        ensures live { IfOk result (λ ticket. Holds self.new.setup self.new.history caller ticket) }
+        ensures unchanged { IfErr result (λ back. (back ≡ deed) × (self.new ≡ self.old)) }
+    {
         let live = self.live + 1;
-        let weight = weights::weight_after_row(weight, live)?;
-        match take_room(&mut self.entries, &mut self.store, 1, live) {
-            Ok(()) => {}
-            Err(NoMemory) => return None,
-        }
-        match add_spare(self.alloc, &mut self.spares) {
-            Ok(()) => Some(weight),
-            Err(NoMemory) => None,
-        }
-    }
-
-    // Takes the parked attempt of a reference up again by an entry of this deed, after which the book weighs this. There
-    // is room for it, and it takes no memory.
-    fn take_up(&mut self, caller: u64, deed: Deed, reference: u64, weight: u64) -> Ticket {
         let run = self.entries.len() as u64 + 1;
+        let Some(weight) = room_to_resume(
+            self.alloc,
+            &mut self.entries,
+            &mut self.store,
+            &mut self.spares,
+            weight,
+            live,
+        ) else {
+            return Err(deed);
+        };
         let row = resumed_row(&self.store, reference);
         let ticket = self.attempts.resume(reference, caller, run);
         self.entries.push_reserved(Entry { caller, deed });
         push_row(&mut self.store, row);
         self.weight = weight;
-        self.live += 1;
-        ticket
+        self.live = live;
+        Ok(ticket)
     }
 
     // Enters a call under a key whose attempt is parked, which is taken up again.
     fn resume_by_call(&mut self, caller: u64, raw: Raw, reference: u64) -> Result<Ticket, Raw>
         requires caller { caller < 2 ^ 62 }
         requires room { is_full self.old.setup self.old.history (deed.Call raw) ≡ false }
-        requires resuming { IsResuming (rows_of self.old.setup self.old.history) (time_of self.old.setup self.old.history) (length self.old.history + 1) caller (deed_asks self.old.setup (deed.Call raw)) (effect_to self.old.setup self.old.history (call_entry caller raw)) reference }
+        requires taken { IsResuming (rows_of self.old.setup self.old.history) (time_of self.old.setup self.old.history) (length self.old.history + 1) caller (key_asked (deed_asks self.old.setup (deed.Call raw))) (effect_to self.old.setup self.old.history (call_entry caller raw)) reference }
         ensures entry { OnOk result (self.new ≡ entered self.old (call_entry caller raw)) }
         ensures answer { IfOk result (λ ticket. said_to self.old.setup self.old.history (call_entry caller raw) ≡ Waits ticket.order) }
         ensures ticket { IfOk result (λ ticket. ticket ≡ record { caller = caller; run = length self.old.history + 1; order = ticket.order }) }
@@ -367,9 +381,14 @@ impl Book {
         let Some(weight) = weights::weight_with_raw(self.weight, &raw) else {
             return Err(raw);
         };
-        match self.room_to_resume(weight) {
-            Some(weight) => Ok(self.take_up(caller, Deed::Call(raw), reference, weight)),
-            None => Err(raw),
+        match self.take_up(caller, Deed::Call(raw), reference, weight) {
+            Ok(ticket) => Ok(ticket),
+            Err(deed) => {
+                let Deed::Call(raw) = deed else {
+                    unreachable!()
+                };
+                Err(raw)
+            }
         }
     }
 
@@ -390,9 +409,9 @@ impl Book {
             return Err(Refused::Full);
         }
         match self.attempts.parked() {
-            Some(reference) => match self.room_to_resume(self.weight) {
-                Some(weight) => Ok(Some(self.take_up(caller, Deed::Resume, reference, weight))),
-                None => Err(Refused::NoMemory),
+            Some(reference) => match self.take_up(caller, Deed::Resume, reference, self.weight) {
+                Ok(ticket) => Ok(Some(ticket)),
+                Err(_deed) => Err(Refused::NoMemory),
             },
             None => match take_room(&mut self.entries, &mut self.store, 0, self.live) {
                 Ok(()) => {
@@ -454,16 +473,8 @@ impl Book {
         self.weight = weight;
         self.live = live;
         let _spare = take_spare(&mut self.spares);
-        self.save(reply.status, saving);
+        save(&mut self.records, reply.status, saving);
         Ok(reply)
-    }
-
-    // Saves a reply for the call of a record, where there is one. It takes no memory.
-    fn save(&mut self, status: u16, saving: Option<Saving>) {
-        match saving {
-            Some(Saving { entry, body }) => self.records.save(entry, status, body),
-            None => {}
-        }
     }
 
     // Enters the end of a run that is given up. It is never refused, and takes no memory.

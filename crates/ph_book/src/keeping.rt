@@ -1,8 +1,9 @@
-//! Records of keys that entries open.
+//! Records of keys that entries open, and replies that they save.
 ghost use Rattle.std.specs.Prelude.{◌≡◌, OnErr, OnOk};
-ghost use Rattle.ph_book.specs.Called.{begun_records, kept_records};
+ghost use Rattle.ph_book.specs.Called.{begun_records, kept_records, saved_records};
 
 use crate::calls::Opening;
+use crate::endings::Saving;
 use ph_base::NoMemory;
 use ph_idem::{Asked, Records, Saved};
 
@@ -47,5 +48,15 @@ pub fn open(
             Ok(())
         }
         None => Ok(()),
+    }
+}
+
+/// Saves a reply of a status for the call of a record, where one waits for it. It takes no memory.
+pub fn save(records: &mut Records, status: u16, saving: Option<Saving>)
+    ensures { records.new ≡ saved_records status saving records.old }
+{
+    match saving {
+        Some(Saving { entry, body }) => records.save(entry, status, body),
+        None => {}
     }
 }
