@@ -2,7 +2,7 @@
 use Rattle.std.proofs.Common.{◌≡◌, ℕ, suc, ◌+◌, ◌≤◌, ◌<◌, ◌^◌, ◌∷◌, ◌++◌, max, Bool, true, false, List, [], length, Option, Some, None, is_some, refl, sym, ap, ◌∙◌, subst, length-append, arith}
 use Rattle.std.specs.Prelude.{◌==◌, cond}
 use Rattle.std.proofs.lemmas.List.{append-nil}
-use Rattle.std.proofs.lemmas.Option.{cond_some}
+use Rattle.std.proofs.lemmas.Option.{cond_some, none-some}
 use Rattle.std.proofs.lemmas.Bool.{eqb-true}
 use Rattle.ph_base.specs.declared.acquirer.Ruling.{Ruling}
 use Rattle.ph_base.specs.declared.acquirer.Why.{Why}
@@ -24,7 +24,7 @@ use Rattle.ph_items.specs.declared.items.Item.TheVariants as item
 use Rattle.ph_items.specs.declared.orders.Order.{Order}
 use Rattle.ph_rows.specs.declared.rows.Row.{Row}
 use Rattle.ph_rows.specs.declared.batches.Announced.{Announced}
-use Rattle.ph_rows.specs.Batches.{BatchState, event_rows, last_place, made_rows, with_row}
+use Rattle.ph_rows.specs.Batches.{BatchState, empty_batch, event_rows, last_place, made_rows, with_row}
 use Rattle.ph_rows.specs.Rows.{row_at}
 use Rattle.ph_rows.specs.Views.{ViewState}
 use Rattle.ph_facts.specs.Keeps.{IsDone, IsReady, KeepsRows, MayBeAdded, batch_after, most_rows}
@@ -40,6 +40,7 @@ use Rattle.ph_facts.proofs.OrderLemmas.{order_with_all, origins_stand}
 use Rattle.ph_facts.proofs.OriginLemmas.{have_begun-before}
 use Rattle.ph_facts.proofs.SoundLemmas.{latest_of_sound, sound_later}
 use Rattle.ph_facts.proofs.UnderwayLemmas.{IsUnderway, underway_further}
+use Rattle.ph_doings.specs.Confirmations.{begun_by}
 use Rattle.ph_doings.specs.Doings.{Doing, Leaves, doing_of, touch_of}
 use Rattle.ph_doings.specs.Lawful.{IsLawful, MayDo}
 use Rattle.ph_doings.specs.Rows.{MayEnd, shown_of}
@@ -343,12 +344,12 @@ pub record StandsParked (past : List Doing) (reference : ℕ) : Type 0 where
 pub parked_named : (past : List Doing) (reference : ℕ) (parked : StandsParked past reference) → parked.order.reference ≡ reference
 parked_named past reference parked = own_order past reference parked.intent parked.order attempt.Parked parked.standing
 
-parked_there : (state : ViewState) (past : List Doing) (reference : ℕ) → Stands state past → (parked : StandsParked past reference)
+pub parked_there : (state : ViewState) (past : List Doing) (reference : ℕ) → Stands state past → (parked : StandsParked past reference)
     → HasAttempt state.rows reference parked.intent parked.order attempt_state.Parked
 parked_there state past reference stands parked =
     (past_is_in_rows past state stands.ready.sound.order stands.shown).attempt reference parked.intent parked.order attempt.Parked parked.standing
 
-parked_resumed : (state : ViewState) (past : List Doing) (place reference : ℕ) (stands : Stands state past) (parked : StandsParked past reference)
+pub parked_resumed : (state : ViewState) (past : List Doing) (place reference : ℕ) (stands : Stands state past) (parked : StandsParked past reference)
     → IsDone state most_rows (Resumes parked.intent parked.order) (parked_there state past reference stands parked).row.object
     (resumed_outcome state.rows reference (batch_after state place))
 parked_resumed state past place reference stands parked =
@@ -557,3 +558,48 @@ deed_tells setup state keys past place caller (deed.Finish run ruling) asked sta
 deed_tells setup state keys past place caller (deed.Park run why) asked stands asks fresh = absurd (cc)
 deed_tells setup state keys past place caller deed.Resume asked stands asks fresh = absurd (cc)
 deed_tells setup state keys past place caller (deed.Tick moment) asked stands asks fresh = absurd (cc)
+
+-- ---- who waits
+
+-- a call that begins an attempt by itself waits for the ruling on it
+own_waits : (key : Option (List ℕ)) (opens_ : Bool) (rows : List Row) (now place caller : ℕ) (upshot : Upshot) (reference : ℕ)
+    → begun_by (call_effect key opens_ rows now place caller upshot).doing ≡ Some reference
+    → said_briefly (call_effect key opens_ rows now place caller upshot).said ≡ found.Waits reference
+own_waits key opens_ rows now place caller (Rejects error) reference is = absurd (none-some reference is)
+own_waits key opens_ rows now place caller (Replays saved) reference is = absurd (none-some reference is)
+own_waits key opens_ rows now place caller (Makes (Refuses error)) reference is = absurd (none-some reference is)
+own_waits key opens_ rows now place caller (Makes (Adds Untouched object batch)) reference is = absurd (none-some reference is)
+own_waits key opens_ rows now place caller (Makes (Adds (Puts intent status) object batch)) reference is = absurd (none-some reference is)
+own_waits key opens_ rows now place caller (Makes (Adds (Edits intent status) object batch)) reference is = absurd (none-some reference is)
+own_waits key opens_ rows now place caller (Makes (Adds (Begins cause intent order) object batch)) reference is =
+    let same : order.reference ≡ reference = cc in ap found.Waits same
+own_waits key opens_ rows now place caller (Makes (Adds (Resumes intent order) object batch)) reference is = absurd (none-some reference is)
+own_waits key opens_ rows now place caller (Makes (Adds (Parks intent order) object batch)) reference is = absurd (none-some reference is)
+own_waits key opens_ rows now place caller (Makes (Adds (Settles intent order capture ruling) object batch)) reference is = absurd (none-some reference is)
+own_waits key opens_ rows now place caller (Shows doc) reference is = absurd (none-some reference is)
+own_waits key opens_ rows now place caller (Sets moment) reference is = absurd (none-some reference is)
+
+request_waits : (rows : List Row) (now : ℕ) (keys : Keys) (place caller : ℕ) (judged : Judged) (asked : Asked) → asked_in judged ≡ Some asked
+    → keys.found asked ≡ found.Fresh → (reference : ℕ)
+    → begun_by (call_effect (key_asked (asked_in judged)) (opens keys (asked_in judged)) rows now place caller
+    (request_upshot keys rows now (empty_batch (length rows) now place) judged)).doing ≡ Some reference
+    → said_briefly (call_effect (key_asked (asked_in judged)) (opens keys (asked_in judged)) rows now place caller
+    (request_upshot keys rows now (empty_batch (length rows) now place) judged)).said ≡ found.Waits reference
+request_waits rows now keys place caller (Refused error) asked asks fresh reference is = absurd (cc)
+request_waits rows now keys place caller (Accepted c None) asked asks fresh reference is = absurd (cc)
+request_waits rows now keys place caller (Accepted c (Some of)) asked asks fresh reference is =
+    let same : of ≡ asked = cc in
+    let free : keys.found of ≡ found.Fresh = ap keys.found same ∙ fresh in
+    rw free (own_waits (Some of.key) true rows now place caller (carried rows now c (empty_batch (length rows) now place)) reference (rw free at is))
+
+pub deed_waits : (setup : Setup) (rows : List Row) (now : ℕ) (keys : Keys) (past : List Doing) (place caller : ℕ) (d : Deed) (asked : Asked)
+    → deed_asks setup d ≡ Some asked → keys.found asked ≡ found.Fresh → (reference : ℕ)
+    → begun_by (effect_of setup keys past rows now place caller d).doing ≡ Some reference
+    → said_briefly (effect_of setup keys past rows now place caller d).said ≡ found.Waits reference
+unfolding called_at
+deed_waits setup rows now keys past place caller (deed.Call raw) asked asks fresh reference is =
+    request_waits rows now keys place caller (request_of setup.key raw) asked asks fresh reference is
+deed_waits setup rows now keys past place caller (deed.Finish run ruling) asked asks fresh reference is = absurd (cc)
+deed_waits setup rows now keys past place caller (deed.Park run why) asked asks fresh reference is = absurd (cc)
+deed_waits setup rows now keys past place caller deed.Resume asked asks fresh reference is = absurd (cc)
+deed_waits setup rows now keys past place caller (deed.Tick moment) asked asks fresh reference is = absurd (cc)

@@ -24,11 +24,12 @@ use Rattle.ph_book.specs.History as history
 use Rattle.ph_book.specs.Replies.{Said}
 use Rattle.ph_idem.proofs.OpenLemmas.{length_doings}
 use Rattle.ph_book.specs.Legal.{AreAllowed, IsAllowed, IsLegal}
-use Rattle.ph_book.proofs.EffectLemmas.{deed_does, deed_tells}
+use Rattle.ph_book.proofs.EffectLemmas.{deed_does, deed_tells, deed_waits}
 use Rattle.ph_book.specs.KeyLaws.{KeyAddsNone, RepeatFinds, SavedStays, keys_of, turns_of}
 use Rattle.ph_book.proofs.HistoryLemmas.{length_past, past_more}
 use Rattle.ph_book.proofs.KeyLemmas.{knows_parked, turn_doings, turns_more}
 use Rattle.ph_book.proofs.StandLemmas.{HasStood, comes_next, legal_stands, stood_more, view_after}
+use Rattle.ph_book.proofs.WaitLemmas.{AreWaited, WaitsIf, fresh_over, over_fresh}
 
 -- ---- turns of what happened
 
@@ -51,26 +52,12 @@ turns_count setup turns (h ∷ past) = let rest = turns_count setup (turn_of set
 pub turn_count : (setup : Setup) (past : List Happening) → length (turns_after setup past) ≡ length past
 turn_count setup past = let all = turns_count setup [] past in omega (arith, all)
 
--- a record that is over isn't found
-over_fresh : (past : List (Turn Asked)) (now : ℕ) (last : Opened) → is_over last now ≡ true → found_in past now last ≡ Fresh
-over_fresh past now Never over = refl
-over_fresh past now (OpensAt place same moment) over = rw over refl
-
-fresh_over : (past : List (Turn Asked)) (now : ℕ) (last : Opened) → found_in past now last ≡ Fresh → is_over last now ≡ true
-fresh_over past now Never fresh = refl
-fresh_over past now (OpensAt place same moment) fresh = at (nat_le (moment + a_day) now) refl same fresh
-  where
-    at : (over : Bool) → nat_le (moment + a_day) now ≡ over → (like : Bool)
-        → (if over then Fresh else (if like then result_of past place else Differs)) ≡ Fresh → nat_le (moment + a_day) now ≡ true
-    at true e like h = e
-    at false e true h = absurd (record_laws.not_fresh (doings_of past) place _ h)
-    at false e false h = absurd (cc)
-
 -- ---- each turn may come, and is told
 
 pub record HasTurned (setup : Setup) (past : List Happening) : Type 0 where
   pub lawful : AreLawful has_key is_like setup.opened (turns_after setup past)
   pub told : AreTold setup.opened (turns_after setup past)
+  pub waited : AreWaited setup.opened (turns_after setup past)
 
 turn_may : (setup : Setup) (past : List Happening) (entry : Entry) → HasStood setup past → IsAllowed setup past entry
     → MayTurn has_key is_like setup.opened (turns_after setup past) (turn_of setup (happening_of setup past entry))
@@ -103,6 +90,26 @@ turn_told setup past entry stood = at (deed_asks setup entry.deed) refl
     at (Some asked) asks =
         over asked asks (is_over (last_opened (has_key asked) (is_like asked) setup.opened (turns_after setup past)) (time_of setup.opened (turns_after setup past))) refl
 
+turn_waits : (setup : Setup) (past : List Happening) (entry : Entry)
+    → WaitsIf (opening_of setup.opened (turns_after setup past) (deed_asks setup entry.deed)) (said_briefly (effect_after setup past entry).said)
+    (effect_after setup past entry).doing
+turn_waits setup past entry = at (deed_asks setup entry.deed) refl
+  where
+    over : (asked : Asked) → deed_asks setup entry.deed ≡ Some asked → (fresh : Bool)
+        → is_over (last_opened (has_key asked) (is_like asked) setup.opened (turns_after setup past)) (time_of setup.opened (turns_after setup past)) ≡ fresh
+        → WaitsIf (if fresh then (record { asked = asked; place = suc (length (turns_after setup past)); moment = time_of setup.opened (turns_after setup past) }) ∷ [] else [])
+        (said_briefly (effect_after setup past entry).said) (effect_after setup past entry).doing
+    over asked asks true e =
+        deed_waits setup (rows_after setup past) (time_after setup past) (keys_after setup past) (doings_after past) (length past + 1) entry.caller entry.deed asked asks
+        (over_fresh (turns_after setup past) (time_of setup.opened (turns_after setup past)) _ e)
+    over asked asks false e = tt
+
+    at : (asked : Option Asked) → deed_asks setup entry.deed ≡ asked
+        → WaitsIf (opening_of setup.opened (turns_after setup past) asked) (said_briefly (effect_after setup past entry).said) (effect_after setup past entry).doing
+    at None asks = tt
+    at (Some asked) asks =
+        over asked asks (is_over (last_opened (has_key asked) (is_like asked) setup.opened (turns_after setup past)) (time_of setup.opened (turns_after setup past))) refl
+
 pub turned_more : (setup : Setup) (past : List Happening) (entry : Entry) → HasStood setup past → IsAllowed setup past entry → HasTurned setup past
     → HasTurned setup (and_then setup past entry)
 turned_more setup past entry stood allowed turned =
@@ -111,6 +118,7 @@ turned_more setup past entry stood allowed turned =
     record {
       lawful = subst (AreLawful has_key is_like setup.opened) (sym more) (turn_may setup past entry stood allowed, turned.lawful);
       told = subst (AreTold setup.opened) (sym more) (turn_told setup past entry stood, turned.told);
+      waited = subst (AreWaited setup.opened) (sym more) (turn_waits setup past entry, turned.waited);
     }
 
 turned_from : (setup : Setup) (past : List Happening) (entries : List Entry) → setup.entries < 2 ^ 32 → HasStood setup past → HasTurned setup past
@@ -123,7 +131,7 @@ turned_from setup past (entry ∷ entries) small stood turned allowed =
 pub legal_turned : (setup : Setup) (entries : List Entry) → setup.entries < 2 ^ 32 → IsLegal setup entries → HasTurned setup (past_of setup entries)
 legal_turned setup entries small legal =
     turned_from setup [] entries small (legal_stands setup [] small (record { opened = legal.opened; allowed = tt }))
-    (record { lawful = tt; told = tt }) legal.allowed
+    (record { lawful = tt; told = tt; waited = tt }) legal.allowed
 
 -- ---- a history in two parts
 
@@ -186,7 +194,7 @@ saids_count : (saids : List Said) (past : List Happening)
 saids_count saids [] = omega arith
 saids_count saids (h ∷ past) = let rest = saids_count (h.said ∷ saids) past in omega (arith, rest)
 
-said_count : (past : List Happening) → length (saids_after past) ≡ length past
+pub said_count : (past : List Happening) → length (saids_after past) ≡ length past
 said_count past = let all = saids_count [] past in omega (arith, all)
 
 -- what is said later doesn't change what was said to the entry of a place

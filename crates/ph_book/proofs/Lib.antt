@@ -4,11 +4,15 @@ pub mod EffectLemmas
 pub mod KeyLemmas
 pub mod HistoryLemmas
 pub mod StandLemmas
+pub mod WaitLemmas
 pub mod KeyLawLemmas
 pub mod ServeLemmas
 pub mod RecordLemmas
+pub mod SavingLemmas
+pub mod StartLemmas
 pub mod LawLemmas
 pub mod StepLemmas
+pub mod ResumeLemmas
 pub mod StoreLemmas
 pub mod MoneyLemmas
 pub mod ReplyLemmas
@@ -19,3 +23,4 @@ pub mod OwnRunLemmas
 pub mod GrowthLemmas
 pub mod HostLemmas
 pub mod RunLemmas
+pub mod KeepLemmas

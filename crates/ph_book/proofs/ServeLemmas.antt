@@ -33,7 +33,7 @@ use Rattle.ph_book.specs.declared.setup.Setup.{Setup}
 use Rattle.ph_book.specs.Called.{ServeKeys, ServesFound, is_attempt_parked, is_row_parked, is_state_parked}
 use Rattle.ph_book.specs.Calls.{Keys}
 use Rattle.ph_book.specs.History.{Happening, doings_after, keys_after, reply_at, rows_after, saids_after, time_after, turns_after}
-use Rattle.ph_book.proofs.EffectLemmas.{Stands}
+use Rattle.ph_book.proofs.EffectLemmas.{Stands, StandsParked}
 use Rattle.ph_book.proofs.KeyLawLemmas.{turn_time}
 use Rattle.ph_book.proofs.KeyLemmas.{turn_doings}
 use Rattle.ph_book.proofs.StandLemmas.{HasStood, view_after}
@@ -77,7 +77,7 @@ row_not_parked past state reference stands not (Some row) is = at (attempt_in ro
         (rows_say_past past state.rows stands.shown).attempt reference row one is (item_of row.item one e) in
         ap is_state_parked (sym says.state_is) ∙ shown_parked one.intent one.order says.state ∙ ap is_parked (sym says.standing_is) ∙ not
 
-row_parked : (past : List Doing) (state : ViewState) (reference : ℕ) → Stands state past → (standing : Standing) → standing_of past reference ≡ standing
+pub row_parked : (past : List Doing) (state : ViewState) (reference : ℕ) → Stands state past → (standing : Standing) → standing_of past reference ≡ standing
     → is_parked standing ≡ true → is_row_parked (latest_of reference state.rows) ≡ true
 row_parked past state reference stands NotBegun is parked = absurd (let clash : false ≡ true = parked in cc)
 row_parked past state reference stands (StandsAt intent order attempt.Live) is parked = absurd (let clash : false ≡ true = parked in cc)
@@ -86,6 +86,21 @@ row_parked past state reference stands (StandsAt intent order attempt.Parked) is
     (past_is_in_rows past state stands.ready.sound.order stands.shown).attempt reference intent order attempt.Parked is in
     ap is_row_parked there.latest ∙ ap (λ (i : Item). is_attempt_parked (attempt_in i)) there.item_is ∙ ap is_state_parked there.state_is
 row_parked past state reference stands (StandsAt intent order (attempt.Settled how)) is parked = absurd (let clash : false ≡ true = parked in cc)
+
+-- an attempt whose last row says so stands parked
+pub parked_stands : (past : List Doing) (state : ViewState) (reference : ℕ) → Stands state past → is_row_parked (latest_of reference state.rows) ≡ true
+    → StandsParked past reference
+parked_stands past state reference stands parked = at (standing_of past reference) refl
+  where
+    never : is_parked (standing_of past reference) ≡ false → ⊥
+    never not =
+        let wrong : true ≡ false = sym parked ∙ row_not_parked past state reference stands not (latest_of reference state.rows) refl in cc
+
+    at : (standing : Standing) → standing_of past reference ≡ standing → StandsParked past reference
+    at NotBegun is = absurd (never (ap is_parked is))
+    at (StandsAt intent order attempt.Live) is = absurd (never (ap is_parked is))
+    at (StandsAt intent order attempt.Parked) is = record { intent = intent; order = order; standing = is }
+    at (StandsAt intent order (attempt.Settled how)) is = absurd (never (ap is_parked is))
 
 -- what is found among the records is what is known, by the rows
 serves : (past : List Doing) (state : ViewState) (keys : Keys) (records : List KeyRecord) (what : Found) (there : IdemFound) → Stands state past

@@ -50,12 +50,12 @@ use Rattle.ph_book.proofs.StandLemmas.{history_stands, legal_stands}
 
 -- ---- what a book keeps stands
 
-stands_of : (setup : Setup) (history : List Entry) (rows : List Row) (time weight : ℕ) (attempts : List flights.Attempt) (records : List KeyRecord) (live : ℕ)
+pub stands_of : (setup : Setup) (history : List Entry) (rows : List Row) (time weight : ℕ) (attempts : List flights.Attempt) (records : List KeyRecord) (live : ℕ)
     → IsBook setup history rows time weight attempts records live → Stands (view_of setup history) (doings_of setup history)
 stands_of setup history rows time weight attempts records live b = history_stands setup history b.few b.legal
 
 -- what an entry comes to after a legal history
-comes_of : (setup : Setup) (history : List Entry) (rows : List Row) (time weight : ℕ) (attempts : List flights.Attempt) (records : List KeyRecord) (live : ℕ) (entry : Entry)
+pub comes_of : (setup : Setup) (history : List Entry) (rows : List Row) (time weight : ℕ) (attempts : List flights.Attempt) (records : List KeyRecord) (live : ℕ) (entry : Entry)
     → IsBook setup history rows time weight attempts records live → IsWithinClock entry.deed
     → Comes (view_of setup history) (doings_of setup history) (effect_to setup history entry)
 unfolding rows_of time_of doings_of effect_to
@@ -191,7 +191,7 @@ begin_book old setup history rows time weight attempts records live caller raw n
 -- ---- the runs of callers
 
 -- a caller's live run is found as its own
-own_found : (past : List Doing) (flight : Flight) → live_run past flight.run ≡ Flies flight → own_run past flight.caller flight.run ≡ Some flight
+pub own_found : (past : List Doing) (flight : Flight) → live_run past flight.run ≡ Flies flight → own_run past flight.caller flight.run ≡ Some flight
 own_found past flight live =
     ap (if_own flight.caller) live ∙ cond-true (flight.caller == flight.caller) (Some flight) None (eq-eqb flight.caller flight.caller refl)
 
@@ -213,7 +213,7 @@ begun_held old new setup history entry flight is now_is stepped =
 -- ---- the ends of runs
 
 -- the run of a ticket is a live one
-held_here : (old : BookState) (setup : Setup) (history : List Entry) (caller : ℕ) (ticket : Flight) → record { setup = setup; history = history } ≡ old
+pub held_here : (old : BookState) (setup : Setup) (history : List Entry) (caller : ℕ) (ticket : Flight) → record { setup = setup; history = history } ≡ old
     → Holds old.setup old.history caller ticket → own_run (doings_of setup history) caller ticket.run ≡ Some ticket
 unfolding Holds
 held_here old setup history caller ticket is holds =
