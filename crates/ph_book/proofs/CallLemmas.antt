@@ -1,5 +1,6 @@
 -- What requests come to keeps the rows sound, by the law of each call.
-use Rattle.std.proofs.Common.{◌≡◌, ℕ, ◌+◌, ◌≤◌, Bool, true, false, cond, not, nat_lt, List, length, Option, None, Some, Result, Ok, Err, refl, arith, codes, IfOk}
+use Rattle.std.proofs.Common.{◌≡◌, ℕ, ◌+◌, ◌≤◌, Bool, true, false, cond, not, nat_lt, List, [], length, Option, None, Some, Result, Ok, Err, refl, arith, codes, IfOk}
+use Rattle.std.specs.List.{list_all}
 use Rattle.std.specs.Str.{is_utf8}
 use Rattle.std.proofs.lemmas.Bool.Decides.{nat_tests}
 use Rattle.ph_base.specs.declared.ids.Kind.{Kind}
@@ -7,6 +8,7 @@ use Rattle.ph_errors.specs.declared.api_error.ApiError.{ApiError}
 use Rattle.ph_errors.specs.Table.{ClockBackwards, InvalidApiKey, KeyNotText, KeyTooLong, NoSuchAccount, error_of}
 use Rattle.ph_items.specs.Accounts.{platform}
 use Rattle.ph_items.specs.Clocks.{clock_limit}
+use Rattle.ph_items.specs.Weights.{with_text}
 use Rattle.ph_rows.specs.declared.rows.Row.{Row}
 use Rattle.ph_rows.specs.Names.{owned_named}
 use Rattle.ph_rows.specs.Views.{ViewState}
@@ -40,8 +42,8 @@ use Rattle.ph_disputes.proofs.AnswerLemmas.{close_keeps, evidence_keeps}
 use Rattle.ph_disputes.proofs.OpeningLemmas.{open_due_keeps}
 use Rattle.ph_book.specs.declared.judged.Judged.{Judged}
 use Rattle.ph_book.specs.declared.judged.Judged.TheVariants.{Refused, Accepted}
-use Rattle.ph_book.specs.Calls.{Upshot, Rejects, Replays, Makes, Shows, Sets, and_opened, authenticated, carried, clock_set, found_outcome, retrieved}
-use Rattle.ph_book.specs.Keys.{asked_by, formed_request, is_key, is_platform, key_of, keyed_request, read_request, request_of}
+use Rattle.ph_book.specs.Calls.{key_asked, Upshot, Rejects, Replays, Makes, Shows, Sets, and_opened, authenticated, carried, clock_set, found_outcome, retrieved}
+use Rattle.ph_book.specs.Keys.{asked_in, asked_by, formed_request, is_key, is_platform, key_of, keyed_request, read_request, request_of}
 use Rattle.ph_book.proofs.ErrorLemmas.{IfRefused, IsAnswered, answered, chosen, reading_answered}
 
 -- the error of a request that is no call can be answered; what a call comes to keeps the rows sound; or the clock is set to a moment
@@ -137,3 +139,34 @@ judged_keeps key raw =
     (cond (not (is_platform raw.account)) (Refused (error_of NoSuchAccount)) read) (answered InvalidApiKey)
     (chosen KeepsJudged (not (is_platform raw.account)) (Refused (error_of NoSuchAccount)) read (answered NoSuchAccount)
     (read_keeps raw (reading_of raw) (reading_answered raw) (reading_fit raw)))
+
+-- a key under which something is asked is text
+abbrev pub IsText : Option (List ℕ) → Type 0
+IsText key = list_all is_utf8 (with_text key []) ≡ true
+
+keyed_text : (raw : Raw) (c : Call) (tree : List Leaf) (key : Option (List ℕ)) → IsText (key_asked (asked_in (keyed_request raw c tree key)))
+keyed_text raw c tree None = refl
+keyed_text raw c tree (Some key) = at (nat_lt 255 (length key)) (is_utf8 key) refl
+  where
+    at : (long text : Bool) → is_utf8 key ≡ text
+        → IsText (key_asked (asked_in (cond long (Refused (error_of KeyTooLong)) (cond (not text) (Refused (error_of KeyNotText)) (Accepted c (Some (asked_by raw tree key)))))))
+    at true text e = refl
+    at false false e = refl
+    at false true e = rw e refl
+
+formed_text : (raw : Raw) (c : Call) (form : Result (List Leaf) FormFault) → IsText (key_asked (asked_in (formed_request raw c form)))
+formed_text raw c (Err fault) = refl
+formed_text raw c (Ok tree) = keyed_text raw c tree (key_of raw)
+
+read_text : (raw : Raw) (reading : Result Call ApiError) → IsText (key_asked (asked_in (read_request raw reading)))
+read_text raw (Err error) = refl
+read_text raw (Ok c) = formed_text raw c (form_of raw)
+
+pub judged_text : (key : List ℕ) (raw : Raw) → IsText (key_asked (asked_in (request_of key raw)))
+unfolding request_of
+judged_text key raw =
+    let read : Judged = read_request raw (reading_of raw) in
+    chosen (λ (j : Judged). IsText (key_asked (asked_in j))) (not (is_key key raw.auth)) (Refused (error_of InvalidApiKey))
+    (cond (not (is_platform raw.account)) (Refused (error_of NoSuchAccount)) read) refl
+    (chosen (λ (j : Judged). IsText (key_asked (asked_in j))) (not (is_platform raw.account)) (Refused (error_of NoSuchAccount)) read refl
+    (read_text raw (reading_of raw)))

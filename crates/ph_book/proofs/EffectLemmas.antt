@@ -71,7 +71,7 @@ use Rattle.ph_book.specs.Entries.{IsWithinClock}
 use Rattle.ph_book.specs.History.{Effect, call_effect, deed_asks, effect_of, ended_effect, finish_effect, outcome_effect, outcome_said, outcome_touch, park_effect, parked_by, parked_from, parked_outcome, resume_effect, ruled_outcome, said_briefly}
 use Rattle.ph_book.specs.Replies.{Said, park_reply, ruling_reply}
 use Rattle.ph_book.specs.Runs.{if_own, own_run}
-use Rattle.ph_book.proofs.CallLemmas.{KeepsCall, KeepsJudged, carried_keeps, judged_keeps}
+use Rattle.ph_book.proofs.CallLemmas.{IsText, KeepsCall, KeepsJudged, carried_keeps, judged_keeps, judged_text}
 
 -- the view after an effect
 abbrev pub after_effect : ViewState → Effect → ViewState
@@ -82,6 +82,10 @@ pub record Stands (state : ViewState) (past : List Doing) : Type 0 where
   pub ready : IsReady state
   pub shown : shown_in state.rows ≡ shown_of past
   pub lawful : IsLawful past
+
+-- the keys of attempts are text
+abbrev pub AreText : Keys → Type 0
+AreText keys = (reference : ℕ) → IsText (keys.key reference)
 
 -- an effect leaves them so: its rows are few, and show what it does, which may come
 pub record Comes (state : ViewState) (past : List Doing) (effect : Effect) : Type 0 where
@@ -130,16 +134,16 @@ touch_same caller run (Parks intent order) = refl
 touch_same caller run (Settles intent order capture ruling) = refl
 
 -- a batch that may be added, of what may come
-added_comes : (state : ViewState) (past : List Doing) (key : Option (List ℕ)) (said : Said) (saves : Bool) (caller run : ℕ) (touch : Touch) (batch : BatchState) → Stands state past
+added_comes : (state : ViewState) (past : List Doing) (key : Option (List ℕ)) (said : Said) (saves : Bool) (caller run : ℕ) (touch : Touch) (batch : BatchState) → Stands state past → IsText key
     → MayBeAdded state most_rows touch batch → MayDo past (doing_of caller run touch)
     → Comes state past (record { said = said; saves = saves; rows = made_rows key batch; doing = doing_of caller run touch; now = state.time })
-added_comes state past key said saves caller run touch batch stands added may =
+added_comes state past key said saves caller run touch batch stands text added may =
     let news = event_rows key batch.at batch.rows (last_place batch) batch.announced in
     let both : length (batch.rows ++ news) ≡ length batch.rows + length news = length-append batch.rows news in
     let told = events_few key batch.at batch.rows (last_place batch) batch.announced in
     let few = added.few in
     let room = stands.ready.room in record {
-      sound = entered_sound state key batch stands.ready.sound added.enters refl (omega (arith, both, told, few, room));
+      sound = entered_sound state key batch stands.ready.sound added.enters text (omega (arith, both, told, few, room));
       few = omega (arith, both, told, few);
       shown = shown_before batch.rows news (events_silent key batch.at batch.rows (last_place batch) batch.announced) ∙ added.shown
           ∙ ap shows (sym (touch_same caller run touch));
@@ -148,23 +152,23 @@ added_comes state past key said saves caller run touch batch stands added may =
     }
 
 -- an outcome of a call, as the entry of the next place
-outcome_comes : (state : ViewState) (past : List Doing) (key : Option (List ℕ)) (saves : Bool) (place caller : ℕ) (outcome : Outcome) → Stands state past
+outcome_comes : (state : ViewState) (past : List Doing) (key : Option (List ℕ)) (saves : Bool) (place caller : ℕ) (outcome : Outcome) → Stands state past → IsText key
     → place ≡ suc (length past) → KeepsRows state most_rows outcome
     → Comes state past (outcome_effect key saves state.rows state.time place caller outcome)
-outcome_comes state past key saves place caller (Refuses error) stands next keeps =
+outcome_comes state past key saves place caller (Refuses error) stands text next keeps =
     same_comes state past (outcome_said state.time state.rows (Refuses error)) saves stands
-outcome_comes state past key saves place caller (Adds touch object batch) stands next keeps =
-    added_comes state past key (outcome_said state.time state.rows (Adds touch object batch)) saves caller place touch batch stands keeps.0
+outcome_comes state past key saves place caller (Adds touch object batch) stands text next keeps =
+    added_comes state past key (outcome_said state.time state.rows (Adds touch object batch)) saves caller place touch batch stands text keeps.0
     (subst (λ n. MayDo past (doing_of caller n touch)) (sym next)
     (rows_let_come past state caller touch stands.ready.sound.order stands.shown keeps.1))
 
-call_comes : (state : ViewState) (past : List Doing) (key : Option (List ℕ)) (opens : Bool) (place caller : ℕ) (upshot : Upshot) → Stands state past
+call_comes : (state : ViewState) (past : List Doing) (key : Option (List ℕ)) (opens : Bool) (place caller : ℕ) (upshot : Upshot) → Stands state past → IsText key
     → place ≡ suc (length past) → KeepsCall state upshot → Comes state past (call_effect key opens state.rows state.time place caller upshot)
-call_comes state past key opens place caller (Rejects error) stands next keeps = same_comes state past _ false stands
-call_comes state past key opens place caller (Replays saved) stands next keeps = same_comes state past _ false stands
-call_comes state past key opens place caller (Makes outcome) stands next keeps = outcome_comes state past key opens place caller outcome stands next keeps
-call_comes state past key opens place caller (Shows doc) stands next keeps = same_comes state past _ opens stands
-call_comes state past key opens place caller (Sets moment) stands next keeps = nothing_comes state past _ opens moment stands keeps.0 keeps.1
+call_comes state past key opens place caller (Rejects error) stands text next keeps = same_comes state past _ false stands
+call_comes state past key opens place caller (Replays saved) stands text next keeps = same_comes state past _ false stands
+call_comes state past key opens place caller (Makes outcome) stands text next keeps = outcome_comes state past key opens place caller outcome stands text next keeps
+call_comes state past key opens place caller (Shows doc) stands text next keeps = same_comes state past _ opens stands
+call_comes state past key opens place caller (Sets moment) stands text next keeps = nothing_comes state past _ opens moment stands keeps.0 keeps.1
 
 -- ---- the ends of runs
 
@@ -198,12 +202,12 @@ done_opened state most touch object (Adds does shows_ batch) ready less done =
     )
 
 -- the end of a run, of what may come
-ended_comes : (state : ViewState) (past : List Doing) (key : Option (List ℕ)) (saves : Bool) (flight : Flight) (reply : Reply) (touch : Touch) (object : ℕ) (outcome : Outcome) → Stands state past
+ended_comes : (state : ViewState) (past : List Doing) (key : Option (List ℕ)) (saves : Bool) (flight : Flight) (reply : Reply) (touch : Touch) (object : ℕ) (outcome : Outcome) → Stands state past → IsText key
     → IsDone state most_rows touch object outcome → MayDo past (doing_of flight.caller flight.run touch)
     → Comes state past (ended_effect key saves state.time flight reply outcome)
-ended_comes state past key saves flight reply touch object (Refuses error) stands done may = absurd done
-ended_comes state past key saves flight reply touch object (Adds does shows_ batch) stands done may =
-    added_comes state past key _ saves flight.caller flight.run does batch stands
+ended_comes state past key saves flight reply touch object (Refuses error) stands text done may = absurd done
+ended_comes state past key saves flight reply touch object (Adds does shows_ batch) stands text done may =
+    added_comes state past key _ saves flight.caller flight.run does batch stands text
     (subst (λ (t : Touch). MayBeAdded state most_rows t batch) (sym done.0) done.2)
     (subst (λ (t : Touch). MayDo past (doing_of flight.caller flight.run t)) (sym done.0) may)
 
@@ -222,14 +226,14 @@ pub own_may_end : (state : ViewState) (past : List Doing) (caller run : ℕ) (fl
 own_may_end state past caller run flight stands own =
     live_runs_may_end past state flight stands.lawful stands.ready.sound.order stands.shown (own_is past caller run flight stands.lawful own).0
 
-finish_comes : (state : ViewState) (keys : Keys) (past : List Doing) (place caller run : ℕ) (ruling : Ruling) (found : Option Flight) → Stands state past
+finish_comes : (state : ViewState) (keys : Keys) (past : List Doing) (place caller run : ℕ) (ruling : Ruling) (found : Option Flight) → Stands state past → AreText keys
     → own_run past caller run ≡ found → Comes state past (finish_effect keys state.rows state.time place ruling found)
-finish_comes state keys past place caller run ruling None stands own = same_comes state past _ false stands
-finish_comes state keys past place caller run ruling (Some flight) stands own =
+finish_comes state keys past place caller run ruling None stands texts own = same_comes state past _ false stands
+finish_comes state keys past place caller run ruling (Some flight) stands texts own =
     let may = own_may_end state past caller run flight stands own in
     let capture = may.processing.intent.capture_method in
     ended_comes state past (keys.key flight.order.reference) (is_some (keys.key flight.order.reference)) flight _ (Settles may.intent flight.order capture ruling) may.intent
-    (ruled_outcome state.rows state.time place flight.order.reference ruling) stands (ruled_done state past place flight ruling stands may)
+    (ruled_outcome state.rows state.time place flight.order.reference ruling) stands (texts flight.order.reference) (ruled_done state past place flight ruling stands may)
     (may.settles capture ruling)
 
 -- what is done is what the outcome says
@@ -363,10 +367,10 @@ resumed_touch state past place reference stands parked =
     (resumed_outcome state.rows reference (batch_after state place)) (parked_resumed state past place reference stands parked)
 
 -- it is taken up again, by a call under a key or by itself, as the entry of the next place
-resumed_comes : (state : ViewState) (past : List Doing) (key : Option (List ℕ)) (place caller reference : ℕ) → Stands state past
+resumed_comes : (state : ViewState) (past : List Doing) (key : Option (List ℕ)) (place caller reference : ℕ) → Stands state past → IsText key
     → place ≡ suc (length past) → StandsParked past reference
     → Comes state past (outcome_effect key false state.rows state.time place caller (resumed_outcome state.rows reference (batch_after state place)))
-resumed_comes state past key place caller reference stands next parked =
+resumed_comes state past key place caller reference stands text next parked =
     at (resumed_outcome state.rows reference (batch_after state place)) (parked_resumed state past place reference stands parked)
   where
     may : MayDo past (doing_of caller place (Resumes parked.intent parked.order))
@@ -376,7 +380,7 @@ resumed_comes state past key place caller reference stands next parked =
         → Comes state past (outcome_effect key false state.rows state.time place caller outcome)
     at (Refuses error) done = absurd done
     at (Adds touch object batch) done =
-        added_comes state past key _ false caller place touch batch stands
+        added_comes state past key _ false caller place touch batch stands text
         (subst (λ (t : Touch). MayBeAdded state most_rows t batch) (sym done.0) done.2)
         (subst (λ (t : Touch). MayDo past (doing_of caller place t)) (sym done.0) may)
 
@@ -386,7 +390,7 @@ park_comes state past place caller run why None stands own = same_comes state pa
 park_comes state past place caller run why (Some flight) stands own =
     let may = own_may_end state past caller run flight stands own in
     ended_comes state past None false flight _ (Parks may.intent flight.order) 0
-    (parked_outcome state.rows state.time place flight.order.reference) stands
+    (parked_outcome state.rows state.time place flight.order.reference) stands refl
     (parked_done state place may.intent flight.order stands.ready may.attempt) may.parks
 
 -- an end of a live run ends one run, and begins none
@@ -417,36 +421,36 @@ KnowsParked keys past = (asked : Asked) (reference : ℕ) → keys.found asked �
 
 -- what a call comes to by what it finds under its key
 found_comes : (state : ViewState) (keys : Keys) (past : List Doing) (place caller : ℕ) (c : Call) (asked : Asked) → Stands state past
-    → place ≡ suc (length past) → calls.IsFit c → KnowsParked keys past → (what : Found) → keys.found asked ≡ what
+    → place ≡ suc (length past) → calls.IsFit c → IsText (Some asked.key) → KnowsParked keys past → (what : Found) → keys.found asked ≡ what
     → Comes state past (call_effect (Some asked.key) (is_fresh what) state.rows state.time place caller
     (by_found keys state.rows (batch_after state place) (carried state.rows state.time c (batch_after state place)) what))
-found_comes state keys past place caller c asked stands next fit knows found.Fresh is =
-    call_comes state past (Some asked.key) true place caller (carried state.rows state.time c (batch_after state place)) stands next
+found_comes state keys past place caller c asked stands next fit text knows found.Fresh is =
+    call_comes state past (Some asked.key) true place caller (carried state.rows state.time c (batch_after state place)) stands text next
     (carried_keeps state place c stands.ready fit)
-found_comes state keys past place caller c asked stands next fit knows found.Differs is = same_comes state past _ false stands
-found_comes state keys past place caller c asked stands next fit knows found.Live is = same_comes state past _ false stands
-found_comes state keys past place caller c asked stands next fit knows (found.Parked reference) is =
-    resumed_comes state past (Some asked.key) place caller reference stands next (knows asked reference is)
-found_comes state keys past place caller c asked stands next fit knows (found.Saved at) is = same_comes state past _ false stands
+found_comes state keys past place caller c asked stands next fit text knows found.Differs is = same_comes state past _ false stands
+found_comes state keys past place caller c asked stands next fit text knows found.Live is = same_comes state past _ false stands
+found_comes state keys past place caller c asked stands next fit text knows (found.Parked reference) is =
+    resumed_comes state past (Some asked.key) place caller reference stands text next (knows asked reference is)
+found_comes state keys past place caller c asked stands next fit text knows (found.Saved at) is = same_comes state past _ false stands
 
 -- what a request comes to
 request_comes : (state : ViewState) (keys : Keys) (past : List Doing) (place caller : ℕ) (judged : Judged) → Stands state past
-    → place ≡ suc (length past) → KeepsJudged judged → KnowsParked keys past
+    → place ≡ suc (length past) → KeepsJudged judged → IsText (key_asked (asked_in judged)) → KnowsParked keys past
     → Comes state past (call_effect (key_asked (asked_in judged)) (opens keys (asked_in judged)) state.rows state.time place caller
     (request_upshot keys state.rows state.time (batch_after state place) judged))
-request_comes state keys past place caller (Refused error) stands next keeps knows = same_comes state past _ false stands
-request_comes state keys past place caller (Accepted c None) stands next keeps knows =
-    call_comes state past None false place caller (carried state.rows state.time c (batch_after state place)) stands next
+request_comes state keys past place caller (Refused error) stands next keeps text knows = same_comes state past _ false stands
+request_comes state keys past place caller (Accepted c None) stands next keeps text knows =
+    call_comes state past None false place caller (carried state.rows state.time c (batch_after state place)) stands text next
     (carried_keeps state place c stands.ready keeps)
-request_comes state keys past place caller (Accepted c (Some asked)) stands next keeps knows =
-    found_comes state keys past place caller c asked stands next keeps knows (keys.found asked) refl
+request_comes state keys past place caller (Accepted c (Some asked)) stands next keeps text knows =
+    found_comes state keys past place caller c asked stands next keeps text knows (keys.found asked) refl
 
 call_at_comes : (setup : Setup) (state : ViewState) (keys : Keys) (past : List Doing) (place caller : ℕ) (raw : Raw) → Stands state past
     → place ≡ suc (length past) → KnowsParked keys past
     → Comes state past (effect_of setup keys past state.rows state.time place caller (deed.Call raw))
 unfolding called_at
 call_at_comes setup state keys past place caller raw stands next knows =
-    request_comes state keys past place caller (request_of setup.key raw) stands next (judged_keeps setup.key raw) knows
+    request_comes state keys past place caller (request_of setup.key raw) stands next (judged_keeps setup.key raw) (judged_text setup.key raw) knows
 
 -- the parked attempt whose last park stands earliest is taken up again
 resume_comes : (state : ViewState) (past : List Doing) (place caller : ℕ) (first : Option Order) → Stands state past
@@ -454,22 +458,22 @@ resume_comes : (state : ViewState) (past : List Doing) (place caller : ℕ) (fir
 resume_comes state past place caller None stands next is = same_comes state past _ false stands
 resume_comes state past place caller (Some order) stands next is =
     let law : FirstOf past (Some order) = subst (FirstOf past) is (first_parked_is_earliest past stands.lawful) in
-    resumed_comes state past None place caller order.reference stands next
+    resumed_comes state past None place caller order.reference stands refl next
     (record { intent = law.intent; order = order; standing = law.standing })
 
 -- what a deed comes to after what stands, as the entry of the next place
 pub effect_comes : (setup : Setup) (state : ViewState) (keys : Keys) (past : List Doing) (place caller : ℕ) (d : Deed) → Stands state past
-    → place ≡ suc (length past) → IsWithinClock d → KnowsParked keys past
+    → place ≡ suc (length past) → IsWithinClock d → KnowsParked keys past → AreText keys
     → Comes state past (effect_of setup keys past state.rows state.time place caller d)
-effect_comes setup state keys past place caller (deed.Call raw) stands next clock knows =
+effect_comes setup state keys past place caller (deed.Call raw) stands next clock knows texts =
     call_at_comes setup state keys past place caller raw stands next knows
-effect_comes setup state keys past place caller (deed.Finish run ruling) stands next clock knows =
-    finish_comes state keys past place caller run ruling (own_run past caller run) stands refl
-effect_comes setup state keys past place caller (deed.Park run why) stands next clock knows =
+effect_comes setup state keys past place caller (deed.Finish run ruling) stands next clock knows texts =
+    finish_comes state keys past place caller run ruling (own_run past caller run) stands texts refl
+effect_comes setup state keys past place caller (deed.Park run why) stands next clock knows texts =
     park_comes state past place caller run why (own_run past caller run) stands refl
-effect_comes setup state keys past place caller deed.Resume stands next clock knows =
+effect_comes setup state keys past place caller deed.Resume stands next clock knows texts =
     resume_comes state past place caller (first_parked past) stands next refl
-effect_comes setup state keys past place caller (deed.Tick moment) stands next clock knows =
+effect_comes setup state keys past place caller (deed.Tick moment) stands next clock knows texts =
     let shown = stands.ready.sound.order.clock in
     nothing_comes state past _ false (max state.time moment) stands (omega arith) (omega arith)
 

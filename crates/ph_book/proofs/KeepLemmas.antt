@@ -3,7 +3,8 @@ use Rattle.std.proofs.Common.{◌≡◌, ℕ, ◌+◌, ◌^◌, ◌<◌, ◌≤�
 use Rattle.std.specs.List.{find, list_all}
 use Rattle.std.proofs.lemmas.Bool.{eqb-true, false≢true}
 use Rattle.std.proofs.lemmas.Bool.Decides.{nat_tests}
-use Rattle.ph_attempts.specs.Attempts.{Begins, Resumes, Step}
+use Rattle.ph_attempts.specs.Attempts.{Begins, Resumes, Step, is_parked_under}
+use Rattle.ph_attempts.specs.declared.flights.Attempt.TheVariants.{Parked}
 use Rattle.ph_attempts.specs.declared.flights.Attempt as flights
 use Rattle.ph_attempts.specs.declared.flights.Flight.{Flight}
 use Rattle.ph_base.specs.declared.acquirer.Ruling.{Ruling}
@@ -19,6 +20,7 @@ use Rattle.ph_items.specs.Clocks.{clock_limit}
 use Rattle.ph_items.specs.declared.orders.Order.{Order}
 use Rattle.ph_rows.specs.declared.rows.Row.{Row}
 use Rattle.ph_book.specs.declared.setup.Setup.{Setup}
+use Rattle.ph_book.specs.declared.acts.Deed.{Deed}
 use Rattle.ph_book.specs.declared.acts.Deed.TheVariants as deed
 use Rattle.ph_book.specs.declared.acts.Entry.{Entry}
 use Rattle.ph_book.specs.declared.calls.Opening.{Opening}
@@ -26,14 +28,14 @@ use Rattle.ph_book.specs.declared.endings.Saving.{Saving}
 use Rattle.ph_book.specs.Called.{IsOpening, IsResuming, asked_if, begun_records, kept_records, opening_of, opening_weight, record_key, saved_records, saving_of, saving_weight}
 use Rattle.ph_book.specs.Entries.{TakesUp, call_entry, finish_entry, park_entry, resume_entry, tick_entry}
 use Rattle.ph_book.specs.History.{Effect, deed_asks, doings_of, effect_to, past_of, rows_of, said_to, time_of}
-use Rattle.ph_book.specs.Legal.{IsAllowed, is_full, saved_weight}
+use Rattle.ph_book.specs.Legal.{IsAllowed, is_full, saved_weight, weight_of}
 use Rattle.ph_book.specs.Answers.{is_ruled}
 use Rattle.ph_book.specs.Replies.{Said, Replies, Waits, Silence}
 use Rattle.ph_book.specs.State.{BookState, IsBook, is_saved_well, is_status_well, records_of}
 use Rattle.ph_book.specs.Tickets.{Holds}
 use Rattle.ph_book.proofs.HistoryLemmas.{may_come}
 use Rattle.ph_book.proofs.ReplyLemmas.{IsServedOrWaits, finish_ruled, said_to_call}
-use Rattle.ph_book.proofs.ResumeLemmas.{takes_clock, takes_own, taken_here}
+use Rattle.ph_book.proofs.ResumeLemmas.{taken_doing, taken_here, taken_stands, takes_clock, takes_own}
 use Rattle.ph_book.proofs.RunLemmas.{finish_does, park_does, tick_does}
 use Rattle.ph_book.proofs.SavingLemmas.{SettlesNone, begun_well, call_opens_none, key_kept, none_newest, opened_well, opening_weighs, quiet_kept, replied_kept, resumed_kept, saved_well, saving_weighs, settled_kept, waiting_kept, waiting_weighs}
 use Rattle.ph_book.proofs.StartLemmas.{Starts, StepsAs, call_steps}
@@ -52,11 +54,11 @@ replied : (setup : Setup) (history : List Entry) (records : List KeyRecord) (cal
     → StepsAs caller (length history + 1) said (step_of (effect_to setup history (call_entry caller raw)).doing)
     → step_of (effect_to setup history (call_entry caller raw)).doing ≡ None → (reply : Reply) × ((said ≡ Replies reply) × IsServedOrWaits (Replies reply))
 replied setup history records caller raw (Replies reply) served steps quiet = (reply, (refl, served))
-replied setup history records caller raw (Waits order) served steps quiet = absurd (starts_some steps quiet)
+replied setup history records caller raw (Waits order) served steps quiet = absurd (starts_some (record { caller = caller; run = length history + 1; order = order }) (step_of (effect_to setup history (call_entry caller raw)).doing) steps quiet)
   where
-    starts_some : {flight : Flight} {made : Option Step} → Starts flight made → made ≡ None → ⊥
-    starts_some {flight} (inl e) quiet = let wrong : None ≡ Some (Begins flight) = sym quiet ∙ e in cc
-    starts_some {flight} (inr e) quiet = let wrong : None ≡ Some (Resumes flight) = sym quiet ∙ e in cc
+    starts_some : (flight : Flight) (made : Option Step) → Starts flight made → made ≡ None → ⊥
+    starts_some flight made (inl e) quiet = let wrong : None ≡ Some (Begins flight) = sym quiet ∙ e in cc
+    starts_some flight made (inr e) quiet = let wrong : None ≡ Some (Resumes flight) = sym quiet ∙ e in cc
 replied setup history records caller raw Silence served steps quiet = absurd served
 
 -- after a call that is answered at once
@@ -163,19 +165,25 @@ begun_back setup history rows time weight attempts records live place at referen
     let same : (place == place) ≡ true = grind (arith, nat_tests) in rw same refl
 
 -- after an entry that takes an attempt up again
-pub take_keeps : (old : BookState) (setup : Setup) (history : List Entry) (rows : List Row) (time weight : ℕ) (attempts : List flights.Attempt) (records : List KeyRecord) (live caller reference : ℕ) (flight : Flight) (d : _) (key : Option (List ℕ))
+pub take_keeps : (old : BookState) (setup : Setup) (history : List Entry) (rows : List Row) (time weight : ℕ) (attempts : List flights.Attempt) (records : List KeyRecord) (live caller reference : ℕ) (order : Order) (d : Deed) (key : Option (List ℕ))
     → record { setup = setup; history = history } ≡ old → IsBook setup history rows time weight attempts records live → caller < 2 ^ 62 → TakesUp d
     → is_full old.setup old.history d ≡ false
     → IsResuming (rows_of old.setup old.history) (time_of old.setup old.history) (length old.history + 1) caller key (effect_to old.setup old.history (record { caller = caller; deed = d })) reference
-    → step_of (effect_to setup history (record { caller = caller; deed = d })).doing ≡ Some (Resumes flight)
-    → records_of setup (history ++ record { caller = caller; deed = d } ∷ []) ≡ records
-take_keeps old setup history rows time weight attempts records live caller reference flight d key is b below takes room taken_old stepped =
+    → find (is_parked_under reference) attempts ≡ Some (Parked order) → records_of setup (history ++ record { caller = caller; deed = d } ∷ []) ≡ records
+take_keeps old setup history rows time weight attempts records live caller reference order d key is b below takes room taken_old found =
     let taken = taken_here old setup history rows time weight attempts records live caller reference d key is b taken_old in
+    let parked = taken_stands setup history rows time weight attempts records live reference b taken.parked in
+    let does = taken_doing setup history rows time weight attempts records live caller reference order d key b taken found parked in
     resumed_kept setup history (record { caller = caller; deed = d }) b.few b.legal
     (may_come setup history caller d below (takes_clock d takes) (takes_own (doings_of setup history) caller d takes)
     (subst (λ (x : BookState). is_full x.setup x.history d ≡ false) (sym is) room))
-    (ap (λ (effect : Effect). effect.saves) taken.effect_is) (subst SettlesNone (sym stepped) tt)
+    (ap (λ (effect : Effect). effect.saves) taken.effect_is) (subst (λ (x : Doing). SettlesNone (step_of x)) (sym does) tt)
     ∙ sym b.records_are
+
+-- the weight of a history is what its book keeps
+pub weight_here : (old : BookState) (setup : Setup) (history : List Entry) (rows : List Row) (time weight : ℕ) (attempts : List flights.Attempt) (records : List KeyRecord) (live : ℕ)
+    → record { setup = setup; history = history } ≡ old → IsBook setup history rows time weight attempts records live → weight_of old.setup old.history ≡ weight
+weight_here old setup history rows time weight attempts records live is b = ap (λ (x : BookState). weight_of x.setup x.history) (sym is) ∙ sym b.weight_is
 
 -- ---- the ends of runs
 

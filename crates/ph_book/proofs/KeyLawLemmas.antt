@@ -1,7 +1,8 @@
 -- The laws of idempotency keys, over every legal history.
-use Rattle.std.proofs.Common.{◌≡◌, ℕ, suc, ◌+◌, ◌^◌, ◌<◌, ◌≤◌, ◌==◌, ◌++◌, ◌∷◌, nat_le, Bool, true, false, if◌then◌else◌, List, [], length, Option, Some, None, refl, sym, ap, ◌∙◌, subst, append-assoc, length-append, arith}
+use Rattle.std.proofs.Common.{◌≡◌, ℕ, suc, ◌+◌, ◌^◌, ◌<◌, ◌≤◌, ◌==◌, ◌++◌, ◌∷◌, nat_le, Bool, true, false, if◌then◌else◌, List, [], length, Option, Some, None, refl, sym, ap, ◌∙◌, subst, length-append, arith}
 use Rattle.std.specs.List.{fold}
 use Rattle.std.proofs.lemmas.Bool.Decides.{nat_tests}
+use Rattle.std.proofs.lemmas.List.{append_assoc}
 use Rattle.std.proofs.lemmas.List.Sums.{fold-append}
 use Rattle.ph_doings.specs.Confirmations.{begun_by}
 use Rattle.ph_doings.specs.Doings.{Doing, Leaves, Puts, Edits, Begins, Resumes, Parks, Settles}
@@ -148,7 +149,7 @@ later_from setup past (entry ∷ entries) =
     record {
       more = rest.more ++ turn_of setup (happening_of setup past entry) ∷ [];
       turns_are = rest.turns_are ∙ ap (λ (turns : List (Turn Asked)). rest.more ++ turns) (turns_more setup past (happening_of setup past entry))
-          ∙ sym (append-assoc rest.more (turn_of setup (happening_of setup past entry) ∷ []) (turns_after setup past));
+          ∙ sym (append_assoc rest.more (turn_of setup (happening_of setup past entry) ∷ []) (turns_after setup past));
     }
 
 -- what happened in a history, and after it

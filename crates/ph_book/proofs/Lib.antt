@@ -17,6 +17,7 @@ pub mod StoreLemmas
 pub mod MoneyLemmas
 pub mod ReplyLemmas
 pub mod CalledLemmas
+pub mod KeyedLemmas
 pub mod CallerLemmas
 pub mod LookLemmas
 pub mod OwnRunLemmas
@@ -24,3 +25,4 @@ pub mod GrowthLemmas
 pub mod HostLemmas
 pub mod RunLemmas
 pub mod KeepLemmas
+pub mod AskLemmas

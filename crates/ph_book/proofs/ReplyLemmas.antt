@@ -225,6 +225,10 @@ ruled_status status is = at (status == 200) (status == 402) refl refl is
 pub says_reply : (place caller : ℕ) (said : Said) (reply : Reply) → said ≡ Replies reply → Says place caller said (answer.Reply reply)
 says_reply place caller said reply is = subst (λ (s : Said). Says place caller s (answer.Reply reply)) (sym is) refl
 
+pub says_wait : (place caller : ℕ) (said : Said) (order : Order) (ticket : Flight) → said ≡ Waits order
+    → ticket ≡ record { caller = caller; run = place; order = order } → Says place caller said (answer.Wait ticket)
+says_wait place caller said order ticket is ticket_is = subst (λ (s : Said). Says place caller s (answer.Wait ticket)) (sym is) ticket_is
+
 -- nothing is said where Done answers
 pub says_silence : (place caller : ℕ) (said : Said) → said ≡ Silence → Says place caller said answer.Done
 says_silence place caller said is = subst (λ (s : Said). Says place caller s answer.Done) (sym is) tt

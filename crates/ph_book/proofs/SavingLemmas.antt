@@ -26,6 +26,7 @@ use Rattle.ph_idem.specs.Kept.{Opening, has_key, is_like, kept_of, opening_of, o
 use Rattle.ph_idem.specs.Laws.{saved_under, with_opened, with_settled}
 use Rattle.ph_idem.specs.Records.{is_attached, is_entry, is_newest, opened_record, taken_back, update_first, with_reference, with_result}
 use Rattle.ph_idem.proofs.OpenLemmas.{AreOpened, are_opened}
+use Rattle.ph_items.specs.declared.intents.CaptureMethod.{CaptureMethod}
 use Rattle.ph_items.specs.declared.orders.Order.{Order}
 use Rattle.ph_rows.specs.declared.rows.Row.{Row}
 use Rattle.ph_rows.specs.Batches.{BatchState, empty_batch}
@@ -41,7 +42,7 @@ use Rattle.ph_book.specs.Called as called
 use Rattle.ph_book.specs.Calls.{Keys, Upshot, Rejects, Replays, Makes, Shows, Sets, by_found, called_at, carried, is_fresh, key_asked, opens, request_upshot}
 use Rattle.ph_book.specs.Entries.{call_entry, finish_entry, park_entry, resume_entry, tick_entry}
 use Rattle.ph_book.specs.History.{Effect, Happening, and_then, call_effect, deed_asks, effect_after, effect_to, happening_of, keys_after, past_of, reply_at, said_briefly, saids_after, saved_said, time_after, turn_of, turns_after}
-use Rattle.ph_book.specs.History as history
+use Rattle.ph_book.specs.History as happened
 use Rattle.ph_book.specs.Keys.{asked_in, request_of}
 use Rattle.ph_book.specs.Legal.{IsAllowed, IsLegal, saved_weight}
 use Rattle.ph_book.specs.Replies.{Said, Replies, Waits, Silence}
@@ -169,7 +170,12 @@ call_saves : (setup : Setup) (past : List Happening) (caller : ℕ) (raw : Raw)
     → (effect_after setup past (call_entry caller raw)).saves ≡ opens (keys_after setup past) (deed_asks setup (deed.Call raw))
 unfolding called_at
 call_saves setup past caller raw =
-    request_saves (history.rows_after setup past) (time_after setup past) (keys_after setup past) (length past + 1) caller (request_of setup.key raw)
+    request_saves (happened.rows_after setup past) (time_after setup past) (keys_after setup past) (length past + 1) caller (request_of setup.key raw)
+
+pub saves_opens : (setup : Setup) (history : List Entry) (caller : ℕ) (raw : Raw)
+    → (effect_to setup history (call_entry caller raw)).saves ≡ opens (keys_after setup (past_of setup history)) (deed_asks setup (deed.Call raw))
+unfolding effect_to
+saves_opens setup history caller raw = call_saves setup (past_of setup history) caller raw
 
 -- ---- the records after a call
 
@@ -207,9 +213,9 @@ call_opened : (setup : Setup) (history : List Entry) (caller : ℕ) (raw : Raw) 
     → IsAllowed setup (past_of setup history) (call_entry caller raw) → SettlesNone (step_of (effect_to setup history (call_entry caller raw)).doing)
     → records_of setup (history ++ call_entry caller raw ∷ [])
     ≡ with_opened (reply_at (saids_after (and_then setup (past_of setup history) (call_entry caller raw)))) (said_briefly (effect_to setup history (call_entry caller raw)).said)
-    (opened_if (effect_to setup history (call_entry caller raw)).saves (deed_asks setup (deed.Call raw)) (length history + 1) (history.time_of setup history))
+    (opened_if (effect_to setup history (call_entry caller raw)).saves (deed_asks setup (deed.Call raw)) (length history + 1) (happened.time_of setup history))
     (records_of setup history)
-unfolding effect_to history.time_of
+unfolding effect_to happened.time_of
 call_opened setup history caller raw small legal allowed none =
     let past : List Happening = past_of setup history in
     let entry : Entry = call_entry caller raw in
@@ -231,8 +237,8 @@ pub replied_kept : (setup : Setup) (history : List Entry) (caller : ℕ) (raw : 
     → (effect_to setup history (call_entry caller raw)).said ≡ Replies reply
     → records_of setup (history ++ call_entry caller raw ∷ [])
     ≡ kept_records (called.opening_of (asked_if (effect_to setup history (call_entry caller raw)).saves (deed_asks setup (deed.Call raw))) reply)
-    (length history + 1) (history.time_of setup history) (records_of setup history)
-unfolding effect_to history.time_of
+    (length history + 1) (happened.time_of setup history) (records_of setup history)
+unfolding effect_to happened.time_of
 replied_kept setup history caller raw reply small legal allowed none said =
     let past : List Happening = past_of setup history in
     let entry : Entry = call_entry caller raw in
@@ -250,8 +256,8 @@ pub waiting_kept : (setup : Setup) (history : List Entry) (caller : ℕ) (raw : 
     → (effect_to setup history (call_entry caller raw)).said ≡ Waits order
     → records_of setup (history ++ call_entry caller raw ∷ [])
     ≡ begun_records (asked_if (effect_to setup history (call_entry caller raw)).saves (deed_asks setup (deed.Call raw)))
-    (length history + 1) (history.time_of setup history) order.reference (records_of setup history)
-unfolding effect_to history.time_of
+    (length history + 1) (happened.time_of setup history) order.reference (records_of setup history)
+unfolding effect_to happened.time_of
 waiting_kept setup history caller raw order small legal allowed none said =
     let past : List Happening = past_of setup history in
     let entry : Entry = call_entry caller raw in
@@ -315,7 +321,7 @@ settled_records : (found_ : Option KeyRecord) (reply : Reply) (records : List Ke
 settled_records None reply records = refl
 settled_records (Some kept) reply records = refl
 
-pub settled_kept : (setup : Setup) (history : List Entry) (entry : Entry) (intent : ℕ) (flight : Flight) (capture : _) (ruling : Ruling) (reply : Reply)
+pub settled_kept : (setup : Setup) (history : List Entry) (entry : Entry) (intent : ℕ) (flight : Flight) (capture : CaptureMethod) (ruling : Ruling) (reply : Reply)
     → setup.entries < 2 ^ 32 → IsLegal setup history → IsAllowed setup (past_of setup history) entry → deed_asks setup entry.deed ≡ None
     → (effect_to setup history entry).doing ≡ Settles intent flight capture ruling → (effect_to setup history entry).said ≡ Replies reply
     → records_of setup (history ++ entry ∷ [])

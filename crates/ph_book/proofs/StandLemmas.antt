@@ -26,7 +26,7 @@ use Rattle.ph_book.specs.History.{Happening, and_then, doings_after, doings_of, 
 use Rattle.ph_book.specs.Legal.{AreAllowed, EndsOwn, IsAllowed, IsLegal, is_full_after, raw_weight, used_after, weight_after}
 use Rattle.ph_book.specs.Stays.{doings_more}
 use Rattle.ph_book.proofs.EffectLemmas.{Comes, Stands, effect_comes, finish_ends, park_ends}
-use Rattle.ph_book.proofs.KeyLemmas.{knows_parked}
+use Rattle.ph_book.proofs.KeyLemmas.{keys_text, knows_parked}
 use Rattle.ph_book.proofs.HistoryLemmas.{rows_more, time_more}
 
 -- the view after what happened
@@ -108,7 +108,7 @@ pub comes_next : (setup : Setup) (past : List Happening) (entry : Entry) → Has
     → Comes (view_after setup past) (doings_after past) (effect_after setup past entry)
 comes_next setup past entry stood allowed =
     effect_comes setup (view_after setup past) (keys_after setup past) (doings_after past) (length past + 1) entry.caller entry.deed stood.stands
-    (let same = stood.places in omega (arith, same)) allowed.clock (knows_parked setup past)
+    (let same = stood.places in omega (arith, same)) allowed.clock (knows_parked setup past) (keys_text setup past)
 
 -- one entry more that may come
 pub stood_more : (setup : Setup) (past : List Happening) (entry : Entry) → setup.entries < 2 ^ 32 → HasStood setup past → IsAllowed setup past entry

@@ -45,7 +45,7 @@ use Rattle.ph_book.specs.State.{BookState, IsBook, is_saved_well, records_of}
 use Rattle.ph_book.specs.Tickets.{Holds}
 use Rattle.ph_book.proofs.EffectLemmas.{Comes, Stands, done_touch, effect_comes, own_is, own_may_end, parked_done, ruled_done}
 use Rattle.ph_book.proofs.HistoryLemmas.{book_more, doings_grow, effect_is, may_come}
-use Rattle.ph_book.proofs.KeyLemmas.{knows_parked}
+use Rattle.ph_book.proofs.KeyLemmas.{keys_text, knows_parked}
 use Rattle.ph_book.proofs.StandLemmas.{history_stands, legal_stands}
 
 -- ---- what a book keeps stands
@@ -63,7 +63,7 @@ comes_of setup history rows time weight attempts records live entry b clock =
     let stood = legal_stands setup history b.few b.legal in
     let places = stood.places in
     effect_comes setup _ (keys_after setup (past_of setup history)) _ _ entry.caller entry.deed stood.stands (omega (arith, places)) clock
-    (knows_parked setup (past_of setup history))
+    (knows_parked setup (past_of setup history)) (keys_text setup (past_of setup history))
 
 -- ---- how many runs are live
 

@@ -7,7 +7,8 @@ use Rattle.ph_doings.specs.Confirmations.{begun_by}
 use Rattle.ph_doings.specs.Doings.{Doing, Leaves, Puts, Edits, Begins, Resumes, Parks, Settles}
 use Rattle.ph_doings.specs.Lawful.{MayDo}
 use Rattle.ph_doings.specs.Records.{AreLawful, DoesByFound, Found, Fresh, Differs, Live, Parked, Saved, Said, Replies, Silence, Waits, Opened, Never, Opens, Turn, a_day, doings_of, found_in, is_over, last_opened, record_of, result_of, time_of}
-use Rattle.ph_doings.specs.Standings.{NotBegun, standing_of}
+use Rattle.ph_doings.specs.Standings.{NotBegun, Stands, standing_of}
+use Rattle.ph_doings.specs.Standings as attempt
 use Rattle.ph_doings.proofs.RecordLemmas as record_laws
 use Rattle.ph_idem.specs.declared.asked.Asked.{Asked}
 use Rattle.ph_idem.specs.declared.key_record.KeyRecord.{KeyRecord}
@@ -60,22 +61,22 @@ unbegun_by (Begins cause intent flight) past reference new = at (reference == fl
   where
     at : (same : Bool) → (reference == flight.order.reference) ≡ same
         → (standing_of past reference ≡ NotBegun) × ((begun : ℕ) → Some flight.order.reference ≡ Some begun → (reference == begun) ≡ false)
-    at true e = absurd (let wrong = rw e at new in cc)
+    at true e = absurd (let wrong : Stands intent flight.order attempt.Live ≡ NotBegun = rw e at new in cc)
     at false e = (rw e at new, λ begun is. let own : flight.order.reference ≡ begun = cc in ap (λ n. reference == n) (sym own) ∙ e)
 unbegun_by (Resumes intent flight) past reference new = (at (reference == flight.order.reference) refl, λ begun is. absurd (none-some begun is))
   where
     at : (same : Bool) → (reference == flight.order.reference) ≡ same → standing_of past reference ≡ NotBegun
-    at true e = absurd (let wrong = rw e at new in cc)
+    at true e = absurd (let wrong : Stands intent flight.order attempt.Live ≡ NotBegun = rw e at new in cc)
     at false e = rw e at new
 unbegun_by (Parks intent flight) past reference new = (at (reference == flight.order.reference) refl, λ begun is. absurd (none-some begun is))
   where
     at : (same : Bool) → (reference == flight.order.reference) ≡ same → standing_of past reference ≡ NotBegun
-    at true e = absurd (let wrong = rw e at new in cc)
+    at true e = absurd (let wrong : Stands intent flight.order attempt.Parked ≡ NotBegun = rw e at new in cc)
     at false e = rw e at new
 unbegun_by (Settles intent flight capture ruling) past reference new = (at (reference == flight.order.reference) refl, λ begun is. absurd (none-some begun is))
   where
     at : (same : Bool) → (reference == flight.order.reference) ≡ same → standing_of past reference ≡ NotBegun
-    at true e = absurd (let wrong = rw e at new in cc)
+    at true e = absurd (let wrong : Stands intent flight.order (attempt.Settled ruling) ≡ NotBegun = rw e at new in cc)
     at false e = rw e at new
 
 -- so it has no key
@@ -92,10 +93,10 @@ no_key (turn ∷ past) reference new =
 -- ---- the key after a doing
 
 -- where a doing begins no attempt of this reference but under no key, the key stays
-key_stays : (by asked_ : Option ℕ) (reference : ℕ) (asked : Option Asked) (key : Option (List ℕ)) → by ≡ asked_
+key_stays : (by : Option ℕ) (reference : ℕ) (asked : Option Asked) (key : Option (List ℕ))
     → ((begun : ℕ) → by ≡ Some begun → (asked ≡ None) × ((reference == begun) ≡ true → key ≡ None)) → key_after by reference asked key ≡ key
-key_stays None other reference asked key same stays = refl
-key_stays (Some begun) other reference asked key same stays = at (reference == begun) refl
+key_stays None reference asked key stays = refl
+key_stays (Some begun) reference asked key stays = at (reference == begun) refl
   where
     at : (test : Bool) → (reference == begun) ≡ test → (if reference == begun then key_asked asked else key) ≡ key
     at true e = rw e (ap key_asked (stays begun refl).0 ∙ sym ((stays begun refl).1 e))
@@ -115,7 +116,7 @@ begun_new Leaves past begun may is = absurd (none-some begun is)
 begun_new (Puts intent status) past begun may is = absurd (none-some begun is)
 begun_new (Edits intent status) past begun may is = absurd (none-some begun is)
 begun_new (Begins cause intent flight) past begun may is =
-    let own : flight.order.reference ≡ begun = cc in ap (standing_of past) (sym own) ∙ may.1.0
+    let own : flight.order.reference ≡ begun = cc in ap (standing_of past) (sym own) ∙ may.1
 begun_new (Resumes intent flight) past begun may is = absurd (none-some begun is)
 begun_new (Parks intent flight) past begun may is = absurd (none-some begun is)
 begun_new (Settles intent flight capture ruling) past begun may is = absurd (none-some begun is)
@@ -219,6 +220,6 @@ key_found reply opened (turn ∷ past) reference lawful told waited =
         → key_after (begun_by turn.doing) reference turn.asked key
         ≡ record_key (find (is_attached reference) (with_opened reply turn.said (opening_of opened past turn.asked) records))
     at None asks tells waits same =
-        rw asks (key_stays (begun_by turn.doing) (begun_by turn.doing) reference None key refl (λ begun is. (refl, new begun is)) ∙ same)
+        rw asks (key_stays (begun_by turn.doing) reference None key (λ begun is. (refl, new begun is)) ∙ same)
     at (Some asked) asks tells waits same =
         rw asks (over asked asks (is_over (last_opened (has_key asked) (is_like asked) opened past) (time_of opened past)) refl tells waits same)

@@ -135,21 +135,21 @@ abbrev pub IsOpening : Option Asked → Effect → Option Opening → Type 0
 IsOpening asked effect opening = (reply : Reply) → effect.said ≡ Replies reply → opening ≡ opening_of (asked_if effect.saves asked) reply
 
 -- an effect is that of a call that is answered so, and opens a record of this or none
-pub record IsAnswered (opened : Option Asked) (effect : Effect) (reply : Reply) (rows : List Row) (now : ℕ) (opening : Option Opening) : Type 0 where
+pub record IsAnswered (opened : Option Asked) (effect : Effect) (reply : Reply) (made : List Row) (after : ℕ) (kept : Option Opening) : Type 0 where
   pub said : effect.said ≡ Replies reply
   pub saves : effect.saves ≡ is_some opened
-  pub rows : effect.rows ≡ rows
-  pub now : effect.now ≡ now
-  pub opening : opening ≡ opening_of opened reply
+  pub rows : effect.rows ≡ made
+  pub now : effect.now ≡ after
+  pub opening : kept ≡ opening_of opened reply
 
 -- an effect is that of a call that waits by itself: where it asks something under a key, it opens a record of that
-pub record IsWaiting (asks opened : Option Asked) (effect : Effect) (order : Order) (rows : List Row) (now : ℕ) (asked : Option Asked) : Type 0 where
+pub record IsWaiting (asks opened : Option Asked) (effect : Effect) (order : Order) (made : List Row) (after : ℕ) (kept : Option Asked) : Type 0 where
   pub itself : opened ≡ asks
   pub said : effect.said ≡ Waits order
   pub saves : effect.saves ≡ is_some opened
-  pub rows : effect.rows ≡ rows
-  pub now : effect.now ≡ now
-  pub asked : asked ≡ opened
+  pub rows : effect.rows ≡ made
+  pub now : effect.now ≡ after
+  pub asked : kept ≡ opened
 
 -- an effect is that the attempt of a reference, which is parked, is taken up again, under a key or none
 pub record IsResuming (rows : List Row) (now place caller : ℕ) (key : Option (List ℕ)) (effect : Effect) (reference : ℕ) : Type 0 where
