@@ -310,7 +310,7 @@ fn made(
 
 // A reply that was saved, given once more.
 fn replayed(alloc: Global, store: &Store, saved: Option<&Saved>) -> Result<Called, NoMemory>
-    requires there { IsSome (option_copied saved.entry) }
+    requires there { IsSome (option_copied saved) }
     ensures { (rows : List Row) (time place caller : ℕ) (of : Option Asked) (effect : Effect) → IfSome (option_copied saved.entry) (λ reply. effect.said ≡ Replies (replayed_reply reply))
         → effect.saves ≡ false → effect.rows ≡ [] → effect.now ≡ store.now.time → IfOk result (λ called. IsCalled rows time place caller of None effect called) }
 {
@@ -365,7 +365,9 @@ pub fn called_by(
 {
     match judge(alloc, key, raw)? {
         Judged::Refused(error) => refused(alloc, &error, store.time(), None),
-        Judged::Accepted(call, None) => made(alloc, store, place, &call, None),
-        Judged::Accepted(call, Some(asked)) => { keyed(alloc, store, records, place, &call, asked) }
+        Judged::Accepted(call, asked) => match asked {
+            None => made(alloc, store, place, &call, None),
+            Some(asked) => keyed(alloc, store, records, place, &call, asked),
+        },
     }
 }
