@@ -55,6 +55,12 @@ call_made old setup history rows time weight attempts records live place caller 
     (subst (λ open_. IsCalled rows time place caller asks (asked_if open_ asks) (request_effect setup (known setup history) rows time place caller raw asks) made)
     (sym (saves_opens setup history caller raw)) comes)))
 
+-- it is what is made of it, in each case
+pub called_as : (rows : List Row) (now place caller : ℕ) (asks opened : Option Asked) (effect : Effect) (called other : Called) → called ≡ other
+    → IsCalled rows now place caller asks opened effect called → IsCalled rows now place caller asks opened effect other
+called_as rows now place caller asks opened effect called other is comes =
+    subst (λ (c : Called). IsCalled rows now place caller asks opened effect c) is comes
+
 -- ---- the steps of calls
 
 -- a call that is answered changes no attempt

@@ -199,6 +199,7 @@ impl Book {
         ensures live { IfOk result (λ answer. HandsOut self.new.setup self.new.history caller answer) }
         ensures unchanged { IfErr result (λ back. (back ≡ raw) × (self.new ≡ self.old)) }
     {
+        self.lawful();
         match called {
             Called::Answered(reply, rows, now, opening) => {
                 match self.enter(caller, raw, rows, now, opening) {
