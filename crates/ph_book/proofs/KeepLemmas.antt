@@ -29,7 +29,7 @@ use Rattle.ph_book.specs.declared.calls.Opening.{Opening}
 use Rattle.ph_book.specs.declared.endings.Saving.{Saving}
 use Rattle.ph_book.specs.Called.{IsOpening, IsResuming, asked_if, begun_records, kept_records, opening_of, opening_weight, record_key, saved_records, saving_of, saving_weight}
 use Rattle.ph_book.specs.Entries.{TakesUp, call_entry, finish_entry, park_entry, resume_entry, tick_entry}
-use Rattle.ph_book.specs.History.{Effect, deed_asks, doings_of, effect_to, finish_effect, past_of, rows_of, said_to, time_of}
+use Rattle.ph_book.specs.History.{Effect, deed_asks, doings_of, effect_to, finish_effect, nothing, past_of, rows_of, said_to, time_of}
 use Rattle.ph_book.specs.Legal.{IsAllowed, is_full, saved_weight, weight_of}
 use Rattle.ph_book.specs.Answers.{is_ruled}
 use Rattle.ph_book.specs.Replies.{Said, Replies, Waits, Silence}
@@ -268,10 +268,12 @@ tick_keeps old setup history rows time weight attempts records live caller momen
 
 pub pass_keeps : (old : BookState) (setup : Setup) (history : List Entry) (rows : List Row) (time weight : ℕ) (attempts : List flights.Attempt) (records : List KeyRecord) (live caller : ℕ)
     → record { setup = setup; history = history } ≡ old → IsBook setup history rows time weight attempts records live → caller < 2 ^ 62
-    → is_full old.setup old.history deed.Resume ≡ false → step_of (effect_to setup history (resume_entry caller)).doing ≡ None
+    → is_full old.setup old.history deed.Resume ≡ false → effect_to old.setup old.history (resume_entry caller) ≡ nothing (time_of old.setup old.history)
     → records_of setup (history ++ resume_entry caller ∷ []) ≡ records
-pass_keeps old setup history rows time weight attempts records live caller is b below room stepped =
+pass_keeps old setup history rows time weight attempts records live caller is b below room none =
+    let comes : effect_to setup history (resume_entry caller) ≡ nothing (time_of setup history) =
+    subst (λ (x : BookState). effect_to x.setup x.history (resume_entry caller) ≡ nothing (time_of x.setup x.history)) (sym is) none in
     quiet_kept setup history (resume_entry caller) b.few b.legal
     (may_come setup history caller deed.Resume below tt tt (subst (λ (x : BookState). is_full x.setup x.history deed.Resume ≡ false) (sym is) room))
-    refl (subst SettlesNone (sym stepped) tt)
+    refl (subst (λ (effect : Effect). SettlesNone (step_of effect.doing)) (sym comes) tt)
     ∙ sym b.records_are
