@@ -1,5 +1,5 @@
 //! What the steps of a request before its own make of it.
-ghost use Rattle.std.specs.Prelude.{◌≡◌, IfOk, option_copied};
+ghost use Rattle.std.specs.Prelude.{◌≡◌, IfOk, Some, option_copied};
 ghost use Rattle.std.specs.Str.{is_utf8};
 ghost use Rattle.ph_book.specs.Keys as spec;
 ghost use Rattle.ph_calls.specs.Reading.{form_of, reading_of};
@@ -107,21 +107,26 @@ fn asked(alloc: Global, raw: &Raw, tree: Form, key: &Bytes) -> Result<Asked, NoM
     })
 }
 
+// What a request of this call comes to, which was read from this form, under a key.
+fn under(alloc: Global, raw: &Raw, call: Call, tree: Form, key: &Bytes) -> Result<Judged, NoMemory>
+    ensures { IfOk result (λ judged. judged ≡ spec.keyed_request raw.now call tree (Some key.now)) }
+{
+    if 255 < key.as_slice().len() {
+        Ok(Judged::Refused(ApiError::key_too_long(alloc)?))
+    } else if !is_text(key.as_slice()) {
+        Ok(Judged::Refused(ApiError::key_not_text(alloc)?))
+    } else {
+        Ok(Judged::Accepted(call, Some(asked(alloc, raw, tree, key)?)))
+    }
+}
+
 // What a request of this call comes to, which was read from this form.
 fn keyed(alloc: Global, raw: &Raw, call: Call, tree: Form) -> Result<Judged, NoMemory>
     ensures { IfOk result (λ judged. judged ≡ spec.keyed_request raw.now call tree (spec.key_of raw.now)) }
 {
     match key_of(raw) {
         None => Ok(Judged::Accepted(call, None)),
-        Some(key) => {
-            if 255 < key.as_slice().len() {
-                Ok(Judged::Refused(ApiError::key_too_long(alloc)?))
-            } else if !is_text(key.as_slice()) {
-                Ok(Judged::Refused(ApiError::key_not_text(alloc)?))
-            } else {
-                Ok(Judged::Accepted(call, Some(asked(alloc, raw, tree, key)?)))
-            }
-        }
+        Some(key) => under(alloc, raw, call, tree, key),
     }
 }
 
