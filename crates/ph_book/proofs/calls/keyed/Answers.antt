@@ -70,7 +70,7 @@ returns-in-Begun c keys caller serve =
     (call_effect (Some asked.key) (is_fresh what) store.rows store.time c.args.place caller (by_found keys store.rows (empty_batch (length store.rows) store.time c.args.place) own what)) called))
     (sym is)
     (c.refused-else-is_parked.ensures store.rows store.time c.args.place caller (Some asked) (replied_effect false (error_reply (error_of KeyInUse)) store.time)
-    (ap (λ (e : ApiError). Replies (error_reply e)) (sym c.in_ok-key_in_use-else-is_parked.ensures)) refl refl (sym c.time-now.ensures))
+    (ap (λ (e : ApiError). Replies (error_reply e)) (sym c.in_ok-key_in_use-in-Begun.ensures)) refl refl (sym c.time-now.ensures))
 
 pub returns : goal.returns
 returns c keys caller serve =
