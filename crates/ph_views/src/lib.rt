@@ -14,6 +14,7 @@ mod subjects;
 mod transactions;
 mod values;
 
-pub use balances::balance_doc;
+pub use balances::{balance_doc, has_txns};
 pub use clocks::clock_doc;
 pub use item_docs::{item_doc, item_text};
+pub use values::printed_id;
