@@ -6,6 +6,8 @@ pub mod Runs
 pub mod History
 pub mod Legal
 pub mod Tickets
+pub mod Queries
+pub mod Hosts
 pub mod Spares
 pub mod Stores
 pub mod Called

@@ -107,7 +107,7 @@ impl Book {
         requires clock { IsWithinClock (deed_of act) }
         ensures entry { OnOk result (self.new ≡ entered self.old (entry_of caller act)) }
         ensures answer { IfOk result (λ answer. Says (length self.old.history + 1) caller (said_to self.old.setup self.old.history (entry_of caller act)) answer) }
-        ensures kind { IfOk result (λ answer. IsAnswerTo act answer) }
+        ensures kind { IfOk result (λ answer. IsAnswerTo (deed_of act) answer) }
         ensures status { IfOk result (λ answer. HasStatus answer) }
         ensures live { IfOk result (λ answer. HandsOut self.new.setup self.new.history caller answer) }
         ensures replies { IfOk result (λ answer. replies_of self.new.setup self.new.history ≡ replies_of self.old.setup self.old.history ++ replies_in answer) }

@@ -12,12 +12,12 @@ use Rattle.ph_book.proofs.StepLemmas.{finish_room, park_room}
 use Rattle.ph_book.proofs.book.Book.apply.Goals as goal
 
 pub returns-in-Ok-clause-kind : goal.returns-in-Ok-clause-kind
-returns-in-Ok-clause-kind c = subst (λ (act : Act). IsAnswerTo act c.in-Ok.answer) (sym c.in-Call.is) c.in-Ok.ensures.kind
+returns-in-Ok-clause-kind c = subst (λ (act : Act). IsAnswerTo (deed_of act) c.in-Ok.answer) (sym c.in-Call.is) c.in-Ok.ensures.kind
 
 
 pub returns-in-Ok-finish-clause-kind : goal.returns-in-Ok-finish-clause-kind
 returns-in-Ok-finish-clause-kind c =
-    subst (λ (act : Act). IsAnswerTo act (answer.Reply c.in-Ok-finish.reply)) (sym c.in-Finish.is) c.in-Ok-finish.ensures.ruled
+    subst (λ (act : Act). IsAnswerTo (deed_of act) (answer.Reply c.in-Ok-finish.reply)) (sym c.in-Finish.is) c.in-Ok-finish.ensures.ruled
 
 pub returns-in-Ok-finish-clause-status : goal.returns-in-Ok-finish-clause-status
 returns-in-Ok-finish-clause-status c = ruled_status c.in-Ok-finish.reply.status c.in-Ok-finish.ensures.ruled
