@@ -7,6 +7,7 @@ use Rattle.ph_book.specs.declared.acts.Entry.{Entry}
 use Rattle.ph_book.specs.Answers.{HasStatus, IsAnswerTo, Says}
 use Rattle.ph_book.specs.Entries.{IsWithinClock, deed_of}
 use Rattle.ph_book.specs.History.{said_to}
+use Rattle.ph_book.specs.Legal.{IsLegal}
 use Rattle.ph_book.specs.Tickets.{HandsOut, SpendsOwn}
 
 -- the answer to the entry that comes after a history: it says what is said to it there, it is one to a deed of its kind, a reply has a status that replies are written with, and a ticket is that of a live run of the entry's caller
@@ -21,3 +22,19 @@ pub record Allows (setup : Setup) (history : List Entry) (caller : ℕ) (act : A
   pub caller : caller < 2 ^ 62
   pub own : SpendsOwn setup history caller act
   pub clock : IsWithinClock (deed_of act)
+
+-- the history of a book: it is legal, and its setup has room for fewer entries than a setup of its type may have
+pub record IsLawful (setup : Setup) (history : List Entry) : Type 0 where
+  pub legal : IsLegal setup history
+  pub few : setup.entries < 2 ^ 32
+
+-- the setup and the entries of a book are its own
+abbrev pub same_setup : Setup → Setup
+same_setup setup = setup
+
+abbrev pub itself : Entry → Entry
+itself entry = entry
+
+-- what no lock has seen yet
+abbrev pub no_setup : Setup
+no_setup = record { key = []; opened = 0; entries = 0; weight = 0 }

@@ -13,3 +13,6 @@ pub mod Stores
 pub mod Called
 pub mod State
 pub mod Laws
+pub mod Callers
+pub mod Stays
+pub mod Plain

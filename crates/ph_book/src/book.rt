@@ -10,11 +10,12 @@ ghost use Rattle.ph_book.specs.Answers.{HasStatus, IsAnswerTo, IsNoPark, Says, i
 ghost use Rattle.ph_book.specs.Called.{IsCalled, Steps};
 ghost use Rattle.ph_book.specs.Entries.{IsGranted, IsWithinClock, call_entry, deed_of, entry_of, finish_entry, park_entry, tick_entry};
 ghost use Rattle.ph_book.specs.History.{effect_to, opening_row, replies_of, said_to, time_of};
+ghost use Rattle.ph_book.specs.Queries.{Sees};
 ghost use Rattle.ph_book.specs.Replies.{Replies, Silence, park_reply};
 ghost use Rattle.ph_book.specs.Legal.{is_full, IsLegal};
 ghost use Rattle.ph_book.specs.Tickets.{HandsOut, Holds, SpendsOwn};
 
-use crate::acts::{Act, Answer, Deed, Entry};
+use crate::acts::{Act, Answer, Deed, Entry, Query};
 use crate::calls::{Called, called_by};
 use crate::endings::{Ending, parked_row, settled};
 use crate::room::{later, one_less, push_row, take_room};
@@ -346,6 +347,15 @@ impl Book {
         ensures legal { IsLegal self.now.setup self.now.history }
     {
         self.entries.as_slice()
+    }
+
+    /// Answers a query of its history, and changes nothing.
+    pub fn look(&self, query: &Query) -> bool
+        ensures { Sees self.now.setup self.now.history query.now result }
+    {
+        match query {
+            Query::AnyParked => self.attempts.parked().is_some(),
+        }
     }
 
     /// The setup that it was made with.

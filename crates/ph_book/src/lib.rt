@@ -7,6 +7,7 @@ mod calls;
 mod endings;
 mod hosted;
 mod laws;
+mod object;
 mod replies;
 mod room;
 mod setup;
