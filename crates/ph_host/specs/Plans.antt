@@ -43,6 +43,12 @@ is_once (Once patience) = true
 is_once (Host port workers connections patience) = false
 is_once Usage = false
 
+-- the words ask for something that payhost does
+abbrev pub is_planned : Plan → Bool
+is_planned (Once patience) = true
+is_planned (Host port workers connections patience) = true
+is_planned Usage = false
+
 -- the plan is that of a server of so many workers
 abbrev pub is_host_of : ℕ → Plan → Bool
 is_host_of count (Once patience) = false

@@ -4,7 +4,8 @@ ghost use Rattle.ph_base.specs.Counts.{Rose};
 ghost use Rattle.ph_host.specs.Plans.{WritesUsage, is_once, plan_of};
 ghost use Rattle.ph_host.specs.Runs.{EndsFull, Runs, status_of};
 
-use crate::plans::{Plan, plan};
+use crate::planning::plan;
+use crate::plans::Plan;
 use crate::setups::book;
 use ph_bank::{Acquirer, Patience};
 use ph_base::{Bytes, NoMemory};
@@ -110,5 +111,6 @@ fn status(ending: Result<Closed, TalkError>) -> u8
         Err(TalkError::Cut) => 5,
         Err(TalkError::NoMemory) => 6,
         Err(TalkError::Full) => 9,
+        Err(TalkError::KeepFault) => 3,
     }
 }

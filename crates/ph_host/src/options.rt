@@ -64,6 +64,15 @@ pub fn takes(command: Command, name: &[u8], value: &[u8]) -> bool
         || is_serve(command) && serve_takes(name, value)
 }
 
+/// Whether the command has an option of this name.
+pub fn is_named(command: Command, name: &[u8]) -> bool {
+    match name {
+        b"--key" | b"--clock" | b"--patience" => true,
+        b"--port" | b"--workers" | b"--connections" => is_serve(command),
+        _ => false,
+    }
+}
+
 // Whether the command is that of a server.
 fn is_serve(command: Command) -> bool
     ensures { result ≡ is_serve command }

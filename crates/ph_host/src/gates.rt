@@ -1,0 +1,59 @@
+//! A worker's loop over its gate.
+
+use crate::workers::WorkerEnd;
+use ph_bank::{Acquirer, Patience};
+use ph_book::Hosted;
+use ph_conn::{Closed, TalkError, TalkRules, serve_shared};
+use ph_io::{End, Gate, GateFailed};
+use ph_lock::{Lock, Pass};
+use std::alloc::Global;
+use std::sync::Wait;
+
+/// Serves the connections of a gate one after another, by one pass, and hands each back with the end of its session.
+/// It ends where the gate does, where the gate fails, and behind a session for which there was no memory or no room in
+/// the history.
+pub fn serve_gate<R: Wait, O: Hosted, G: Gate, A: Acquirer, P: Patience>(
+    rt: &R,
+    alloc: Global,
+    lock: &Lock<O>,
+    pass: &mut Pass<O>,
+    gate: &mut G,
+    link: &mut A,
+    patience: &mut P,
+    rules: &TalkRules,
+) -> WorkerEnd {
+    let mut sessions: u64 = 0;
+    let mut broken: u64 = 0;
+    for _ in rt.forever() {
+        let mut conn = match gate.next() {
+            Ok(Some(conn)) => conn,
+            Ok(None) => return WorkerEnd::Done { sessions, broken },
+            Err(GateFailed) => return WorkerEnd::GateFault,
+        };
+        let end = end_of(serve_shared(rt, alloc, lock, pass, &mut conn, link, patience, rules));
+        gate.back(conn, end);
+        sessions = sessions.saturating_add(1);
+        match end {
+            End::Closed => {}
+            End::Cut | End::ReadFault | End::WriteFault | End::KeepFault => {
+                broken = broken.saturating_add(1);
+            }
+            End::Full => return WorkerEnd::Full,
+            End::NoMemory => return WorkerEnd::NoMemory,
+        }
+    }
+    unreachable!()
+}
+
+// How a session ended, as its gate is told.
+fn end_of(ending: Result<Closed, TalkError>) -> End {
+    match ending {
+        Ok(_) => End::Closed,
+        Err(TalkError::ReadFault) => End::ReadFault,
+        Err(TalkError::WriteFault) => End::WriteFault,
+        Err(TalkError::Cut) => End::Cut,
+        Err(TalkError::NoMemory) => End::NoMemory,
+        Err(TalkError::Full) => End::Full,
+        Err(TalkError::KeepFault) => End::KeepFault,
+    }
+}
