@@ -9,3 +9,6 @@ pub mod StoreLemmas
 pub mod MoneyLemmas
 pub mod ReplyLemmas
 pub mod CalledLemmas
+pub mod CallerLemmas
+pub mod LookLemmas
+pub mod OwnRunLemmas

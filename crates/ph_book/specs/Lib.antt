@@ -16,3 +16,4 @@ pub mod Laws
 pub mod Callers
 pub mod Stays
 pub mod Plain
+pub mod OwnRuns

@@ -1,4 +1,5 @@
 mod AnswerLemmas
+mod FrontLemmas
 mod ItemFacts
 mod LiveLemmas
 mod PartLemmas
@@ -6,4 +7,5 @@ mod ReadLemmas
 mod ServedLemmas
 mod SessionLemmas
 mod TextLemmas
+mod WorkLemmas
 mod WriteLemmas

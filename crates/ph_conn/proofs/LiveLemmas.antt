@@ -26,7 +26,7 @@ use Rattle.ph_book.specs.Tickets.{Holds}
 use Rattle.ph_book.proofs.EffectLemmas.{effect_orderly, history_counted}
 use Rattle.ph_book.proofs.HistoryLemmas.{attempts_more, length_past, past_more}
 use Rattle.ph_book.proofs.RunLemmas.{AreKept, IsNext, none_above}
-use Rattle.ph_conn.specs.Desks.{live_in}
+use Rattle.ph_conn.specs.Means.{live_in}
 use Rattle.ph_conn.specs.Parts.{Ending, Settled, GivenUp, end_entry}
 
 -- ---- one entry more
