@@ -1,4 +1,8 @@
 //! A worker's loop over its gate.
+ghost use Rattle.std.specs.Prelude.{◌≡◌};
+ghost use Rattle.ph_lock.specs.Passes.{IsPass, SamePass};
+ghost use Rattle.ph_conn.specs.Fronts.{known_by};
+ghost use Rattle.ph_host.specs.Visits.{Served, end_of};
 
 use crate::workers::WorkerEnd;
 use ph_bank::{Acquirer, Patience};
@@ -21,7 +25,16 @@ pub fn serve_gate<R: Wait, O: Hosted, G: Gate, A: Acquirer, P: Patience>(
     link: &mut A,
     patience: &mut P,
     rules: &TalkRules,
-) -> WorkerEnd {
+) -> WorkerEnd
+    requires lock { pass.old.lock ≡ lock.now }
+    ensures same { SamePass pass.old pass.new }
+    ensures pass { IsPass O.by O.lawful pass.new }
+    ensures served { Served rules.now.limit result
+        (record { known = known_by O.setup O.plain O.mark pass.old; link = A.link link.old; counts = P.counts patience.old })
+        (record { known = known_by O.setup O.plain O.mark pass.new; link = A.link link.new; counts = P.counts patience.new })
+        (G.gate gate.old) (G.gate gate.new) }
+{
+    let _ = pass.caller();
     let mut sessions: u64 = 0;
     let mut broken: u64 = 0;
     for _ in rt.forever() {
@@ -46,7 +59,9 @@ pub fn serve_gate<R: Wait, O: Hosted, G: Gate, A: Acquirer, P: Patience>(
 }
 
 // How a session ended, as its gate is told.
-fn end_of(ending: Result<Closed, TalkError>) -> End {
+fn end_of(ending: Result<Closed, TalkError>) -> End
+    ensures { result ≡ end_of ending }
+{
     match ending {
         Ok(_) => End::Closed,
         Err(TalkError::ReadFault) => End::ReadFault,

@@ -7,10 +7,11 @@ ghost use Rattle.ph_host.specs.Runs.{EndsFull, Runs, status_of};
 use crate::planning::plan;
 use crate::plans::Plan;
 use crate::setups::book;
+use crate::usage::usage;
 use ph_bank::{Acquirer, Patience};
 use ph_base::{Bytes, NoMemory};
 use ph_conn::{Closed, Stop, TalkError, TalkRules, serve_none, serve_solo};
-use ph_io::{Sink, Source, write_all};
+use ph_io::{Sink, Source};
 use std::alloc::Global;
 
 // How many requests the session of `stdio` serves.
@@ -83,20 +84,6 @@ fn stdio<S: Source, K: Sink, A: Acquirer, P: Patience>(
     }
 }
 
-// Writes the usage line.
-pub(crate) fn usage<K: Sink>(output: &mut K) -> u8
-    ensures status { result ≡ 2 }
-    ensures line { WritesUsage (K.sink output.old) (K.sink output.new) }
-{
-    match write_all(
-        output,
-        b"usage: payhost stdio|serve|drill|replay|sign|verify\n",
-    ) {
-        Ok(()) => 2,
-        Err(_) => 2,
-    }
-}
-
 // The exit status of an ending.
 fn status(ending: Result<Closed, TalkError>) -> u8
     ensures { result ≡ status_of ending }
@@ -112,6 +99,5 @@ fn status(ending: Result<Closed, TalkError>) -> u8
         // A book keeps each entry, so no session over one ends with KeepFault.
         Err(TalkError::NoMemory | TalkError::KeepFault) => 6,
         Err(TalkError::Full) => 9,
-        Err(TalkError::KeepFault) => 3,
     }
 }

@@ -11,6 +11,7 @@ mod planning;
 mod plans;
 mod server;
 mod setups;
+mod usage;
 mod workers;
 
 pub use host::run_once;

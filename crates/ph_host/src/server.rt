@@ -1,10 +1,22 @@
 //! The top call of a server.
+ghost use Rattle.std.specs.Prelude.{◌≡◌, ◌≢◌, ℕ, [], All, None, Some, IfNone, IfSome, IsSomeAnd, false, true, length, map};
+ghost use Rattle.ph_lock.specs.Histories.{StartsWith};
+ghost use Rattle.ph_lock.specs.Passes.{IsPass, OnlySaw, SamePass};
+ghost use Rattle.ph_book.specs.Hosts.{IsLawful};
+ghost use Rattle.ph_conn.specs.Fronts.{known_by};
+ghost use Rattle.ph_drill.specs.Summary.{summary_of};
+ghost use Rattle.ph_host.specs.Plans.{WritesUsage, is_host_of, plan_of};
+ghost use Rattle.ph_host.specs.Runs.{new_book};
+ghost use Rattle.ph_host.specs.Servers.{Pairs, Tells, WorksBy, connection_limit, status_of_ends};
+ghost use Rattle.ph_host.specs.Setups.{setup_of};
+ghost use Rattle.ph_host.specs.Visits.{Served};
+ghost use Rattle.ph_host.specs.declared.workers.WorkerEnd.TheVariants as WorkerEnd;
 
 use crate::gates::serve_gate;
-use crate::host::usage;
 use crate::planning::plan;
 use crate::plans::Plan;
 use crate::setups::book;
+use crate::usage::usage;
 use crate::workers::{Worker, WorkerEnd};
 use ph_bank::{Acquirer, Patience};
 use ph_base::{Bytes, NoMemory};
@@ -49,7 +61,26 @@ pub fn run_host<
     words: &[Bytes],
     workers: &mut [Worker<G, A, P, Book>],
     output: &mut K,
-) -> (u8, Option<Book>) {
+) -> (u8, Option<Book>)
+    requires fresh { All (λ worker. (worker.pass ≡ None) × (worker.last ≡ None)) workers.old }
+
+    // The words ask for no server, or for another number of workers.
+    ensures usage { is_host_of (length workers.old) (plan_of words.now) ≡ false → (result.0 ≡ 2) × (result.1 ≡ None)
+        × (workers.new ≡ workers.old) × WritesUsage (K.sink output.old) (K.sink output.new) }
+
+    // There was no memory for the book: nothing was served, and nothing written.
+    ensures none { is_host_of (length workers.old) (plan_of words.now) ≡ true → IfNone result.1 ((result.0 ≡ 6)
+        × (workers.new ≡ workers.old) × (K.sink output.new ≡ K.sink output.old)) }
+
+    // Each worker served its gate by a pass of one book of the words' setup, which knew nothing of the history before; the
+    // book that comes back is that one, and its history begins with what each pass showed last.
+    ensures workers { IfSome result.1 (λ book. (book.setup ≡ setup_of words.now)
+        × Pairs (λ old new. (new.pass ≡ None) × IsSomeAnd new.last (λ shown. StartsWith book.history shown.front
+            × WorksBy (setup_of words.now) shown new.end (A.link old.link) (A.link new.link) (P.counts old.patience) (P.counts new.patience) (G.gate old.gate) (G.gate new.gate))) workers.old workers.new) }
+
+    // The summary of its history was written, and the status is that of the workers' ends; or a write of it failed.
+    ensures summary { IfSome result.1 (λ book. Tells (map (λ worker. worker.end) workers.new) result.0 (summary_of book.setup book.history) (K.sink output.old) (K.sink output.new)) }
+{
     match plan(words) {
         Plan::Host { workers: count, .. } if workers.len() == usize::from(count) => {
             match book(alloc, words) {
@@ -74,7 +105,16 @@ fn host<
     book: Book,
     workers: &mut [Worker<G, A, P, Book>],
     output: &mut K,
-) -> (u8, Option<Book>) {
+) -> (u8, Option<Book>)
+    requires fresh { All (λ worker. (worker.pass ≡ None) × (worker.last ≡ None)) workers.old }
+    requires empty { book.history ≡ [] }
+    requires lawful { IsLawful book.setup book.history }
+    ensures none { IfNone result.1 ((result.0 ≡ 6) × (workers.new ≡ workers.old) × (K.sink output.new ≡ K.sink output.old)) }
+    ensures workers { IfSome result.1 (λ closed. (closed.setup ≡ book.setup)
+        × Pairs (λ old new. (new.pass ≡ None) × IsSomeAnd new.last (λ shown. StartsWith closed.history shown.front
+            × WorksBy book.setup shown new.end (A.link old.link) (A.link new.link) (P.counts old.patience) (P.counts new.patience) (G.gate old.gate) (G.gate new.gate))) workers.old workers.new) }
+    ensures summary { IfSome result.1 (λ closed. Tells (map (λ worker. worker.end) workers.new) result.0 (summary_of closed.setup closed.history) (K.sink output.old) (K.sink output.new)) }
+{
     let (lock, mut first) = match Lock::new(alloc, book) {
         Ok(made) => made,
         Err((_, NoMemory)) => return (6, None),
@@ -89,13 +129,17 @@ fn host<
     }
 }
 
-// Gives each worker a pass of its own.
+// Gives each worker a pass of its own, which knows what the first one does.
 fn split_each<R: Wait, G, A, P>(
     rt: &R,
     lock: &Lock<Book>,
     first: &mut Pass<Book>,
     workers: &mut [Worker<G, A, P, Book>],
-) {
+)
+    requires lock { first.old.lock ≡ lock.now }
+    ensures same { first.new ≡ first.old }
+    ensures passes { Pairs (λ old new. (caller : ℕ) × (new ≡ record old { pass = Some (record { lock = lock.now; base = first.old.base; caller = caller; front = first.old.front; mine = [] }) })) workers.old workers.new }
+{
     match workers {
         [] => {}
         [worker, others @ ..] => {
@@ -112,21 +156,29 @@ fn serve_all<
     G: Gate<Conn: Send> + Send,
     A: Acquirer + Send,
     P: Patience + Send,
->(rt: &R, alloc: Global, lock: &Lock<O>, workers: &mut [Worker<G, A, P, O>])
-where
+>(
+    rt: &R,
+    alloc: Global,
+    lock: &Lock<O>,
+    workers: &mut [Worker<G, A, P, O>],
+) where
     O::Answer: Send,
     O::Entry: Send,
     O::Deed: Send,
     O::Base: Send,
+    requires passes { All (λ worker. IsSomeAnd worker.pass (λ pass. pass.lock ≡ lock.now)) workers.old }
+    ensures served { Pairs (λ old new. (new.last ≡ old.last) × IfSome old.pass (λ before. IsSomeAnd new.pass (λ after.
+        SamePass before after × IsPass O.by O.lawful after
+        × Served connection_limit new.end
+            (record { known = known_by O.setup O.plain O.mark before; link = A.link old.link; counts = P.counts old.patience })
+            (record { known = known_by O.setup O.plain O.mark after; link = A.link new.link; counts = P.counts new.patience })
+            (G.gate old.gate) (G.gate new.gate)))) workers.old workers.new }
 {
     let threads = workers.len();
     if threads > 0 {
-        for_each_mut(
-            rt,
-            workers,
-            threads,
-            &|_, worker| { serve(rt, alloc, lock, worker) },
-        );
+        for_each_mut(rt, workers, threads, &|_, worker| {
+            serve(rt, alloc, lock, worker)
+        });
     }
 }
 
@@ -136,7 +188,16 @@ fn serve<R: Wait, O: Hosted, G: Gate, A: Acquirer, P: Patience>(
     alloc: Global,
     lock: &Lock<O>,
     worker: &mut Worker<G, A, P, O>,
-) {
+)
+    requires pass { IsSomeAnd worker.old.pass (λ pass. pass.lock ≡ lock.now) }
+    ensures last { worker.new.last ≡ worker.old.last }
+    ensures served { IfSome worker.old.pass (λ before. IsSomeAnd worker.new.pass (λ after.
+        SamePass before after × IsPass O.by O.lawful after
+        × Served connection_limit worker.new.end
+            (record { known = known_by O.setup O.plain O.mark before; link = A.link worker.old.link; counts = P.counts worker.old.patience })
+            (record { known = known_by O.setup O.plain O.mark after; link = A.link worker.new.link; counts = P.counts worker.new.patience })
+            (G.gate worker.old.gate) (G.gate worker.new.gate))) }
+{
     let Some(pass) = &mut worker.pass else {
         unreachable!()
     };
@@ -153,12 +214,18 @@ fn serve<R: Wait, O: Hosted, G: Gate, A: Acquirer, P: Patience>(
     );
 }
 
-// Takes each worker's pass back into the first one.
+// Takes each worker's pass back into the first one, whose front then begins with that of each.
 fn join_each<G, A, P>(
     lock: &Lock<Book>,
     first: &mut Pass<Book>,
     workers: &mut [Worker<G, A, P, Book>],
-) {
+)
+    requires lock { first.old.lock ≡ lock.now }
+    requires passes { All (λ worker. IsSomeAnd worker.pass (λ pass. pass.lock ≡ lock.now)) workers.old }
+    ensures same { SamePass first.old first.new }
+    ensures front { OnlySaw first.old first.new }
+    ensures joined { Pairs (λ old new. (new ≡ record old { pass = None; last = old.pass }) × IfSome old.pass (λ pass. StartsWith first.new.front pass.front)) workers.old workers.new }
+{
     match workers {
         [] => {}
         [worker, others @ ..] => {
@@ -172,7 +239,10 @@ fn join_each<G, A, P>(
 }
 
 // The exit status of workers that have ended: that of the first whose gate hasn't.
-fn status<G, A, P>(workers: &[Worker<G, A, P, Book>]) -> u8 {
+fn status<G, A, P>(workers: &[Worker<G, A, P, Book>]) -> u8
+    requires ended { All (λ worker. worker.end ≢ WorkerEnd.Idle) workers.now }
+    ensures { result ≡ status_of_ends (map (λ worker. worker.end) workers.now) }
+{
     match workers {
         [] => 0,
         [worker, others @ ..] => match worker.end {
