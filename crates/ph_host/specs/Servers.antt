@@ -5,6 +5,7 @@ use Rattle.ph_io.specs.Gates.{GateState}
 use Rattle.ph_io.specs.Writes.{Takes, TakesFront}
 use Rattle.ph_bank.specs.Links.{Link}
 use Rattle.ph_bank.specs.Patiences.{Granted}
+use Rattle.atomic_table.specs.Seated.{TableId}
 use Rattle.ph_lock.specs.Passes.{Shown, IsPass}
 use Rattle.ph_book.specs.declared.acts.Entry.{Entry}
 use Rattle.ph_book.specs.declared.hosted.Kept.TheVariants as kept
@@ -27,6 +28,13 @@ Pairs R [] [] = Unit {0}
 Pairs R [] (y ∷ ys) = ⊥
 Pairs R (x ∷ xs) [] = ⊥
 Pairs R (x ∷ xs) (y ∷ ys) = R x y × Pairs R xs ys
+
+-- a pass of this lock, which knows this front of the history, of which nothing is its caller's
+pub record IsNewPass (its_lock : TableId) (setup : Setup) (known : List Entry) (pass : Shown Entry Setup) : Type 0 where
+  pub lock : pass.lock ≡ its_lock
+  pub base : pass.base ≡ setup
+  pub front : pass.front ≡ known
+  pub mine : pass.mine ≡ []
 
 -- what is known by a pass of a book's lock
 abbrev pub known_by_pass : Shown Entry Setup → Known

@@ -1,6 +1,5 @@
 -- What a worker does with the connections of its gate.
-use Rattle.std.specs.Prelude.{◌≡◌, ℕ, Bool, true, false, List, [], ◌∷◌, ◌++◌, length, map, Result, Ok, Err}
-use Rattle.std.specs.List.{filter}
+use Rattle.std.specs.Prelude.{◌≡◌, ℕ, ◌+◌, Bool, true, false, List, [], ◌∷◌, ◌++◌, length, map, Result, Ok, Err}
 use Rattle.ph_io.specs.Told.{SourceState, SinkState}
 use Rattle.ph_io.specs.Gates.{GateState, Return, IsFresh, AllBack, EndsAllBack, FailsAllBack, return_of}
 use Rattle.ph_io.specs.declared.end.End.{End}
@@ -70,60 +69,57 @@ goes_on end.KeepFault = true
 goes_on end.Full = false
 goes_on end.NoMemory = false
 
+-- one, where this is so
+abbrev pub one_if : Bool → ℕ
+one_if true = 1
+one_if false = 0
+
 -- how many sessions were broken off
 abbrev pub broken_in : List Visit → ℕ
-broken_in visits = length (filter (λ visit. is_broken (end_of visit.ending)) visits)
+broken_in [] = 0
+broken_in (visit ∷ visits) = one_if (is_broken (end_of visit.ending)) + broken_in visits
 
 -- the worker went on behind each of these
 abbrev pub AllGoOn : List Visit → Type 0
 AllGoOn [] = Unit {0}
 AllGoOn (visit ∷ visits) = (goes_on (end_of visit.ending) ≡ true) × AllGoOn visits
 
--- the last session ended for this reason, and the worker had gone on behind each before it
-pub record LastEnds (why : TalkError) (visits : List Visit) : Type 0 where
+-- the last session ended so, and the worker had gone on behind each before it
+pub record LastEnds (how : End) (visits : List Visit) : Type 0 where
   pub before : List Visit
   pub last : Visit
   pub all : visits ≡ before ++ last ∷ []
   pub went_on : AllGoOn before
-  pub ended : last.ending ≡ Err why
+  pub ended : end_of last.ending ≡ how
 
 -- each connection that the gate handed out came back with its record, and then there were no more; they and the broken sessions are counted
-pub record EndsDone (visits : List Visit) (sessions broken : ℕ) (gate0 gate1 : GateState) : Type 0 where
+pub record EndsDone (visits : List Visit) (served given_up : ℕ) (gate0 gate1 : GateState) : Type 0 where
   pub all_back : EndsAllBack gate0 gate1 (records_of visits)
   pub went_on : AllGoOn visits
-  pub sessions : sessions ≡ counted_on 0 (length visits)
-  pub broken : broken ≡ counted_on 0 (broken_in visits)
+  pub sessions : served ≡ counted_on 0 (length visits)
+  pub broken : given_up ≡ counted_on 0 (broken_in visits)
 
 -- each connection that the gate handed out came back with its record, and then the gate failed
 pub record EndsFailed (visits : List Visit) (gate0 gate1 : GateState) : Type 0 where
   pub all_back : FailsAllBack gate0 gate1 (records_of visits)
   pub went_on : AllGoOn visits
 
--- each connection that the gate handed out came back with its record; the last session ended for this reason, and the gate has not ended
-pub record EndsEarly (why : TalkError) (visits : List Visit) (gate0 gate1 : GateState) : Type 0 where
+-- each connection that the gate handed out came back with its record; the last session ended so, and the gate has not ended
+pub record EndsEarly (how : End) (visits : List Visit) (gate0 gate1 : GateState) : Type 0 where
   pub all_back : AllBack gate0 gate1 (records_of visits)
   pub early : gate1.ended ≡ false
-  pub last : LastEnds why visits
+  pub last : LastEnds how visits
 
 -- how a worker ended
 abbrev pub EndsAs : WorkerEnd → List Visit → GateState → GateState → Type 0
 EndsAs worker.Idle visits gate0 gate1 = ⊥
 EndsAs (worker.Done sessions broken) visits gate0 gate1 = EndsDone visits sessions broken gate0 gate1
 EndsAs worker.GateFault visits gate0 gate1 = EndsFailed visits gate0 gate1
-EndsAs worker.NoMemory visits gate0 gate1 = EndsEarly fault.NoMemory visits gate0 gate1
-EndsAs worker.Full visits gate0 gate1 = EndsEarly fault.Full visits gate0 gate1
+EndsAs worker.NoMemory visits gate0 gate1 = EndsEarly end.NoMemory visits gate0 gate1
+EndsAs worker.Full visits gate0 gate1 = EndsEarly end.Full visits gate0 gate1
 
 -- What a worker did with its gate: these connections were handed out, served and handed back, and it ended so.
 pub record Served (limit : ℕ) (end : WorkerEnd) (means0 means1 : Means) (gate0 gate1 : GateState) : Type 0 where
   pub visits : List Visit
   pub served : AreVisits limit means0 visits means1
   pub ended : EndsAs end visits gate0 gate1
-
--- what stands of a worker between two connections
-pub record Serving (limit sessions broken : ℕ) (means0 means1 : Means) (gate0 gate1 : GateState) : Type 0 where
-  pub visits : List Visit
-  pub served : AreVisits limit means0 visits means1
-  pub all_back : AllBack gate0 gate1 (records_of visits)
-  pub went_on : AllGoOn visits
-  pub sessions : sessions ≡ counted_on 0 (length visits)
-  pub broken : broken ≡ counted_on 0 (broken_in visits)

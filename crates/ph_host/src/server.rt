@@ -1,13 +1,13 @@
 //! The top call of a server.
 ghost use Rattle.std.specs.Prelude.{◌≡◌, ◌≢◌, ℕ, [], All, None, Some, IfNone, IfSome, IsSomeAnd, false, true, length, map};
 ghost use Rattle.ph_lock.specs.Histories.{StartsWith};
-ghost use Rattle.ph_lock.specs.Passes.{IsPass, OnlySaw, SamePass};
+ghost use Rattle.ph_lock.specs.Passes.{IsPass, SamePass};
 ghost use Rattle.ph_book.specs.Hosts.{IsLawful};
 ghost use Rattle.ph_conn.specs.Fronts.{known_by};
 ghost use Rattle.ph_drill.specs.Summary.{summary_of};
 ghost use Rattle.ph_host.specs.Plans.{WritesUsage, is_host_of, plan_of};
 ghost use Rattle.ph_host.specs.Runs.{new_book};
-ghost use Rattle.ph_host.specs.Servers.{Pairs, Tells, WorksBy, connection_limit, status_of_ends};
+ghost use Rattle.ph_host.specs.Servers.{IsNewPass, Pairs, Tells, WorksBy, connection_limit, status_of_ends};
 ghost use Rattle.ph_host.specs.Setups.{setup_of};
 ghost use Rattle.ph_host.specs.Visits.{Served};
 ghost use Rattle.ph_host.specs.declared.workers.WorkerEnd.TheVariants as WorkerEnd;
@@ -138,15 +138,35 @@ fn split_each<R: Wait, G, A, P>(
 )
     requires lock { first.old.lock ≡ lock.now }
     ensures same { first.new ≡ first.old }
-    ensures passes { Pairs (λ old new. (caller : ℕ) × (new ≡ record old { pass = Some (record { lock = lock.now; base = first.old.base; caller = caller; front = first.old.front; mine = [] }) })) workers.old workers.new }
+    ensures passes { Pairs (λ old new. (new.gate ≡ old.gate) × (new.link ≡ old.link) × (new.patience ≡ old.patience) × (new.last ≡ old.last)
+        × IsSomeAnd new.pass (IsNewPass lock.now first.old.base first.old.front)) workers.old workers.new }
 {
     match workers {
         [] => {}
         [worker, others @ ..] => {
-            worker.pass = Some(lock.split(rt, first));
+            split_one(rt, lock, first, worker);
             split_each(rt, lock, first, others);
         }
     }
+}
+
+// Gives a worker a pass of its own.
+fn split_one<R: Wait, G, A, P>(
+    rt: &R,
+    lock: &Lock<Book>,
+    first: &mut Pass<Book>,
+    worker: &mut Worker<G, A, P, Book>,
+)
+    requires lock { first.old.lock ≡ lock.now }
+    ensures same { first.new ≡ first.old }
+    ensures gate { worker.new.gate ≡ worker.old.gate }
+    ensures link { worker.new.link ≡ worker.old.link }
+    ensures patience { worker.new.patience ≡ worker.old.patience }
+    ensures last { worker.new.last ≡ worker.old.last }
+    ensures pass { IsSomeAnd worker.new.pass (IsNewPass lock.now first.old.base first.old.front) }
+{
+    let pass = lock.split(rt, first);
+    worker.pass = Some(pass);
 }
 
 // Lets each worker serve its gate, in a thread of its own where one can be made.
@@ -223,19 +243,41 @@ fn join_each<G, A, P>(
     requires lock { first.old.lock ≡ lock.now }
     requires passes { All (λ worker. IsSomeAnd worker.pass (λ pass. pass.lock ≡ lock.now)) workers.old }
     ensures same { SamePass first.old first.new }
-    ensures front { OnlySaw first.old first.new }
-    ensures joined { Pairs (λ old new. (new ≡ record old { pass = None; last = old.pass }) × IfSome old.pass (λ pass. StartsWith first.new.front pass.front)) workers.old workers.new }
+    ensures front { StartsWith first.new.front first.old.front }
+    ensures joined { Pairs (λ old new. (new.gate ≡ old.gate) × (new.link ≡ old.link) × (new.patience ≡ old.patience) × (new.end ≡ old.end)
+        × (new.pass ≡ None) × IsSomeAnd old.pass (λ pass. (new.last ≡ Some pass) × StartsWith first.new.front pass.front)) workers.old workers.new }
 {
     match workers {
         [] => {}
         [worker, others @ ..] => {
-            let Some(pass) = worker.pass.take() else {
-                unreachable!()
-            };
-            worker.last = Some(lock.join(first, pass));
+            join_one(lock, first, worker);
             join_each(lock, first, others);
         }
     }
+}
+
+// Takes a worker's pass back into the first one.
+fn join_one<G, A, P>(
+    lock: &Lock<Book>,
+    first: &mut Pass<Book>,
+    worker: &mut Worker<G, A, P, Book>,
+)
+    requires lock { first.old.lock ≡ lock.now }
+    requires pass { IsSomeAnd worker.old.pass (λ pass. pass.lock ≡ lock.now) }
+    ensures same { SamePass first.old first.new }
+    ensures front { StartsWith first.new.front first.old.front }
+    ensures gate { worker.new.gate ≡ worker.old.gate }
+    ensures link { worker.new.link ≡ worker.old.link }
+    ensures patience { worker.new.patience ≡ worker.old.patience }
+    ensures end { worker.new.end ≡ worker.old.end }
+    ensures none { worker.new.pass ≡ None }
+    ensures joined { IsSomeAnd worker.old.pass (λ pass. (worker.new.last ≡ Some pass) × StartsWith first.new.front pass.front) }
+{
+    let Some(pass) = worker.pass.take() else {
+        unreachable!()
+    };
+    let view = lock.join(first, pass);
+    worker.last = Some(view);
 }
 
 // The exit status of workers that have ended: that of the first whose gate hasn't.

@@ -1,4 +1,6 @@
 //! Workers: each serves the connections of its own gate, one after another.
+ghost use Rattle.std.specs.Prelude.{◌≡◌, None};
+ghost use Rattle.ph_host.specs.declared.workers.WorkerEnd.TheVariants as WorkerEnd;
 
 use ph_lock::{Object, Pass, PassView};
 
@@ -38,7 +40,9 @@ pub struct Worker<G, A, P, O: Object> {
 
 impl<G, A, P, O: Object> Worker<G, A, P, O> {
     /// A worker that hasn't begun.
-    pub fn new(gate: G, link: A, patience: P) -> Self {
+    pub fn new(gate: G, link: A, patience: P) -> Self
+        ensures { result ≡ record { gate = gate; link = link; patience = patience; pass = None; last = None; end = WorkerEnd.Idle } }
+    {
         Worker {
             gate,
             link,
