@@ -12,3 +12,6 @@ pub mod CalledLemmas
 pub mod CallerLemmas
 pub mod LookLemmas
 pub mod OwnRunLemmas
+pub mod GrowthLemmas
+pub mod HostLemmas
+pub mod RunLemmas

@@ -1,37 +1,35 @@
 -- The live runs of each caller after one entry more.
-use Rattle.std.proofs.Common.{◌≡◌, ℕ, suc, ◌+◌, ◌^◌, ◌<◌, ◌==◌, ◌&&◌, ◌∷◌, ◌++◌, Bool, true, false, cond, List, [], length, Option, Some, None, refl, sym, ap, ◌∙◌, subst, arith}
-use Rattle.std.proofs.lemmas.Bool.{eq-eqb, ne_eqb}
+use Rattle.std.proofs.Common.{◌≡◌, ℕ, ◌+◌, ◌^◌, ◌<◌, ◌==◌, ◌∷◌, Bool, true, false, cond, List, [], length, Option, Some, None, refl, sym, ap, ◌∙◌, subst, arith}
+use Rattle.std.proofs.lemmas.Bool.{eq-eqb}
 use Rattle.std.proofs.lemmas.Bool.Decides.{nat_tests}
 use Rattle.ph_base.specs.declared.acquirer.Ruling.{Ruling}
 use Rattle.ph_base.specs.declared.acquirer.Why.{Why}
 use Rattle.ph_attempts.specs.Attempts.{is_same_run}
 use Rattle.ph_attempts.specs.Attempts as step
 use Rattle.ph_attempts.specs.declared.flights.Flight.{Flight}
-use Rattle.ph_http.specs.declared.message.Raw.{Raw}
-use Rattle.ph_facts.specs.Keeps.{most_rows}
-use Rattle.ph_doings.specs.Doings.{Doing, Leaves, Puts, Edits, Begins, Resumes, Parks, Settles, doing_of}
+use Rattle.ph_doings.specs.Doings.{Doing, Leaves, Puts, Edits, Begins, Resumes, Parks, Settles}
 use Rattle.ph_doings.specs.Kept.{step_of}
+use Rattle.ph_doings.specs.Lawful.{IsLawful}
 use Rattle.ph_doings.specs.Runs.{Run, NoRun, Flies, ended_by, live_run}
 use Rattle.ph_doings.proofs.LawProofs.{live_is_run}
-use Rattle.ph_facts.specs.Outcomes.{Refuses, Adds}
-use Rattle.ph_facts.specs.Touches.{order_asked}
-use Rattle.ph_items.specs.declared.orders.Order.{Order}
-use Rattle.ph_rows.specs.declared.rows.Row.{Row}
 use Rattle.ph_book.specs.declared.setup.Setup.{Setup}
+use Rattle.ph_book.specs.declared.acts.Act.{Act}
 use Rattle.ph_book.specs.declared.acts.Deed.{Deed}
 use Rattle.ph_book.specs.declared.acts.Deed.TheVariants as deed
 use Rattle.ph_book.specs.declared.acts.Entry.{Entry}
-use Rattle.ph_book.specs.Called.{Steps, StepsAs}
-use Rattle.ph_book.specs.Calls.{Upshot, Rejects, Makes, Shows, Sets, called_at}
-use Rattle.ph_book.specs.Entries.{call_entry}
-use Rattle.ph_book.specs.History.{Happening, call_effect, doings_of, effect_to, finish_effect, park_effect, past_of, rows_after, rows_of, said_to, shown_or_waits, time_after, time_of, view_of}
+use Rattle.ph_book.specs.Called.{StepsAs}
+use Rattle.ph_book.specs.Entries.{call_entry, entry_of}
+use Rattle.ph_book.specs.Hosts as host
+use Rattle.ph_book.specs.History.{doings_of, effect_to, said_to}
 use Rattle.ph_book.specs.Legal.{IsLegal}
-use Rattle.ph_book.specs.OwnRuns.{RunsAfter, after_call, after_deed, after_end, own_of}
+use Rattle.ph_book.specs.OwnRuns.{RunsAfter, after_call, after_deed, after_end}
 use Rattle.ph_book.specs.Replies.{Said, Replies, Waits, Silence}
 use Rattle.ph_book.specs.Runs.{if_own, own_run}
 use Rattle.ph_book.specs.Stays.{own_stays}
-use Rattle.ph_book.proofs.EffectLemmas.{done_touch, own_is, own_may_end, parked_done, raw_steps, ruled_done}
-use Rattle.ph_book.proofs.HistoryLemmas.{doings_grow, length_past}
+use Rattle.ph_book.proofs.EffectLemmas.{own_is}
+use Rattle.ph_book.proofs.HistoryLemmas.{doings_grow}
+use Rattle.ph_book.proofs.ReplyLemmas.{IsServedOrWaits, call_steps_to, said_to_call}
+use Rattle.ph_book.proofs.RunLemmas.{finish_does, no_finish, no_park, park_does, run_held, tick_does}
 use Rattle.ph_book.proofs.StandLemmas.{history_stands}
 
 -- ---- calls
@@ -72,35 +70,17 @@ called_own past does caller place (Replies reply) run steps speaks = quiet_own p
 called_own past does caller place (Waits order) run steps speaks = begun_own past does (record { caller = caller; run = place; order = order }) run steps
 called_own past does caller place Silence run steps speaks = absurd (speaks refl)
 
--- something is said to a call
-upshot_speaks : (rows : List Row) (now place caller : ℕ) (upshot : Upshot) → (call_effect None rows now place caller upshot).said ≡ Silence → ⊥
-upshot_speaks rows now place caller (Rejects error) e = cc
-upshot_speaks rows now place caller (Makes (Refuses error)) e = cc
-upshot_speaks rows now place caller (Makes (Adds touch object batch)) e = waits (order_asked touch) e
-  where
-    waits : (order : Option Order) → shown_or_waits now rows object batch order ≡ Silence → ⊥
-    waits None e = cc
-    waits (Some order) e = cc
-upshot_speaks rows now place caller (Shows doc) e = cc
-upshot_speaks rows now place caller (Sets moment) e = cc
-
-call_speaks : (setup : Setup) (history : List Entry) (caller : ℕ) (raw : Raw) → said_to setup history (call_entry caller raw) ≡ Silence → ⊥
-unfolding effect_to
-call_speaks setup history caller raw =
-    let past : List Happening = past_of setup history in
-    upshot_speaks (rows_after setup past) (time_after setup past) (length past + 1) caller (called_at setup.key (rows_after setup past) (time_after setup past) (length past + 1) raw)
-
 -- ---- the ends of runs
+
+both_same : (b : Bool) (found : Option Flight) → found ≡ cond b found found
+both_same true found = refl
+both_same false found = refl
 
 -- a caller's live runs after an end of the one that has this number
 own_ended : (past : List Doing) (flight : Flight) (caller number run : ℕ) (here : Run) → live_run past run ≡ here
     → ((other : Flight) → here ≡ Flies other → other.run ≡ run) → flight.run ≡ number → flight.caller ≡ caller
     → if_own caller (ended_by flight here) ≡ cond (run == number) None (if_own caller here)
-own_ended past flight caller number run NoRun is numbered at own = none_both (run == number)
-  where
-    none_both : (b : Bool) → None ≡ cond b None None
-    none_both true = refl
-    none_both false = refl
+own_ended past flight caller number run NoRun is numbered at own = both_same (run == number) None
 own_ended past flight caller number run (Flies other) is numbered at own = by_number (run == number) refl
   where
     its : other.run ≡ run
@@ -134,77 +114,60 @@ no_end past caller number run none = at (run == number) refl
     at false e = sym (ap (λ b. cond b None (own_run past caller run)) e)
 
 module _ (setup : Setup) (history : List Entry) (few : setup.entries < 2 ^ 32) (legal : IsLegal setup history) where
-  -- a ruling on a live run settles its attempt
-  pub finish_does : (place caller run : ℕ) (ruling : Ruling) (flight : Flight) → own_of setup history caller run ≡ Some flight
-      → (doing : Doing) × ((finish_effect None (rows_of setup history) (time_of setup history) place ruling (Some flight)).doing ≡ doing)
-      × ((number : ℕ) → live_run (doing ∷ doings_of setup history) number ≡ ended_by flight (live_run (doings_of setup history) number))
-  finish_does place caller run ruling flight own =
-      let stands = history_stands setup history few legal in
-      let may = own_may_end (view_of setup history) (doings_of setup history) caller run flight stands own in
-      (Settles may.intent flight may.processing.intent.capture_method ruling,
-      ap (doing_of flight.caller flight.run) (done_touch (view_of setup history) most_rows _ may.intent _ (ruled_done (view_of setup history) (doings_of setup history) place flight ruling stands may)),
-      λ number. refl)
+  lawful : IsLawful (doings_of setup history)
+  lawful = (history_stands setup history few legal).lawful
 
-  -- a park of a live run parks it
-  pub park_does : (place caller run : ℕ) (why : Why) (flight : Flight) → own_of setup history caller run ≡ Some flight
-      → (doing : Doing) × ((park_effect None (rows_of setup history) (time_of setup history) place why (Some flight)).doing ≡ doing)
-      × ((number : ℕ) → live_run (doing ∷ doings_of setup history) number ≡ ended_by flight (live_run (doings_of setup history) number))
-  park_does place caller run why flight own =
-      let stands = history_stands setup history few legal in
-      let may = own_may_end (view_of setup history) (doings_of setup history) caller run flight stands own in
-      (Parks may.intent flight,
-      ap (doing_of flight.caller flight.run) (done_touch (view_of setup history) most_rows _ 0 _ (parked_done (view_of setup history) place may.intent flight.order stands.ready may.attempt)),
-      λ number. refl)
-
-  -- after such an end
-  ended_own : (caller number run : ℕ) (flight : Flight) (does : Doing) → own_of setup history caller number ≡ Some flight
+  -- after the end of its live run of a number
+  ended_own : (caller number run : ℕ) (flight : Flight) (does : Doing) → own_run (doings_of setup history) caller number ≡ Some flight
       → ((n : ℕ) → live_run (does ∷ doings_of setup history) n ≡ ended_by flight (live_run (doings_of setup history) n))
-      → own_run (does ∷ doings_of setup history) caller run ≡ after_end number run (own_of setup history caller run)
+      → own_run (does ∷ doings_of setup history) caller run ≡ after_end number run (own_run (doings_of setup history) caller run)
   ended_own caller number run flight does own ends =
-      let past : List Doing = doings_of setup history in
-      let lawful = (history_stands setup history few legal).lawful in
-      let it = own_is past caller number flight lawful own in
+      let it = own_is (doings_of setup history) caller number flight lawful own in
       ap (if_own caller) (ends run)
-      ∙ own_ended past flight caller number run (live_run past run) refl (λ other live. (live_is_run past lawful).number run other live) it.1.0 it.1.1
+      ∙ own_ended (doings_of setup history) flight caller number run (live_run (doings_of setup history) run) refl (λ other live. (live_is_run (doings_of setup history) lawful).number run other live) it.1.0 it.1.1
 
-  finished_own : (place caller number run : ℕ) (ruling : Ruling) (found : Option Flight) → own_of setup history caller number ≡ found
-      → own_run ((finish_effect None (rows_of setup history) (time_of setup history) place ruling found).doing ∷ doings_of setup history) caller run
-      ≡ after_end number run (own_of setup history caller run)
-  finished_own place caller number run ruling None own = no_end (doings_of setup history) caller number run own
-  finished_own place caller number run ruling (Some flight) own =
-      let does = finish_does place caller number ruling flight own in
-      ap (λ d. own_run (d ∷ doings_of setup history) caller run) does.1 ∙ ended_own caller number run flight does.0 own does.2
+  finished_own : (caller number run : ℕ) (ruling : Ruling) (found : Option Flight) → own_run (doings_of setup history) caller number ≡ found
+      → own_run ((effect_to setup history (record { caller = caller; deed = deed.Finish number ruling })).doing ∷ doings_of setup history) caller run
+      ≡ after_end number run (own_run (doings_of setup history) caller run)
+  finished_own caller number run ruling None own =
+      ap (λ d. own_run (d ∷ doings_of setup history) caller run) (no_finish setup history caller number ruling own) ∙ no_end (doings_of setup history) caller number run own
+  finished_own caller number run ruling (Some flight) own =
+      let it = own_is (doings_of setup history) caller number flight lawful own in
+      let does = finish_does setup history caller flight ruling few legal (run_held setup history caller flight it.0 it.1.1) in
+      ap (λ n. own_run ((effect_to setup history (record { caller = caller; deed = deed.Finish n ruling })).doing ∷ doings_of setup history) caller run) (sym it.1.0)
+      ∙ ap (λ d. own_run (d ∷ doings_of setup history) caller run) does.2
+      ∙ ended_own caller number run flight (Settles does.0 flight does.1 ruling) own (λ n. refl)
 
-  parked_own : (place caller number run : ℕ) (why : Why) (found : Option Flight) → own_of setup history caller number ≡ found
-      → own_run ((park_effect None (rows_of setup history) (time_of setup history) place why found).doing ∷ doings_of setup history) caller run
-      ≡ after_end number run (own_of setup history caller run)
-  parked_own place caller number run why None own = no_end (doings_of setup history) caller number run own
-  parked_own place caller number run why (Some flight) own =
-      let does = park_does place caller number why flight own in
-      ap (λ d. own_run (d ∷ doings_of setup history) caller run) does.1 ∙ ended_own caller number run flight does.0 own does.2
-
-  call_step : (caller : ℕ) (raw : Raw) → Steps caller (length history + 1) (effect_to setup history (call_entry caller raw))
-  unfolding rows_of time_of doings_of effect_to
-  call_step caller raw =
-      subst (λ n. Steps caller (n + 1) (effect_to setup history (call_entry caller raw))) (length_past setup history)
-      (raw_steps setup (view_of setup history) (doings_of setup history) (length (past_of setup history) + 1) caller raw (history_stands setup history few legal).ready)
+  parked_own : (caller number run : ℕ) (why : Why) (found : Option Flight) → own_run (doings_of setup history) caller number ≡ found
+      → own_run ((effect_to setup history (record { caller = caller; deed = deed.Park number why })).doing ∷ doings_of setup history) caller run
+      ≡ after_end number run (own_run (doings_of setup history) caller run)
+  parked_own caller number run why None own =
+      ap (λ d. own_run (d ∷ doings_of setup history) caller run) (no_park setup history caller number why own) ∙ no_end (doings_of setup history) caller number run own
+  parked_own caller number run why (Some flight) own =
+      let it = own_is (doings_of setup history) caller number flight lawful own in
+      let does = park_does setup history caller flight why few legal (run_held setup history caller flight it.0 it.1.1) in
+      ap (λ n. own_run ((effect_to setup history (record { caller = caller; deed = deed.Park n why })).doing ∷ doings_of setup history) caller run) (sym it.1.0)
+      ∙ ap (λ d. own_run (d ∷ doings_of setup history) caller run) does.1
+      ∙ ended_own caller number run flight (Parks does.0 flight) own (λ n. refl)
 
   -- after a deed of its own
   own_done : (caller run : ℕ) (d : Deed) → own_run ((effect_to setup history (record { caller = caller; deed = d })).doing ∷ doings_of setup history) caller run
-      ≡ after_deed caller (length history + 1) d (said_to setup history (record { caller = caller; deed = d })) run (own_of setup history caller run)
-  unfolding rows_of time_of doings_of effect_to
+      ≡ after_deed caller (length history + 1) d (said_to setup history (record { caller = caller; deed = d })) run (own_run (doings_of setup history) caller run)
   own_done caller run (deed.Call raw) =
       called_own (doings_of setup history) (effect_to setup history (call_entry caller raw)).doing caller (length history + 1) (said_to setup history (call_entry caller raw)) run
-      (call_step caller raw) (call_speaks setup history caller raw)
-  own_done caller run (deed.Finish number ruling) =
-      finished_own (length (past_of setup history) + 1) caller number run ruling (own_of setup history caller number) refl
-  own_done caller run (deed.Park number why) =
-      parked_own (length (past_of setup history) + 1) caller number run why (own_of setup history caller number) refl
-  own_done caller run (deed.Tick moment) = refl
+      (call_steps_to setup history caller raw few legal) (λ silent. subst IsServedOrWaits silent (said_to_call setup history caller raw few legal))
+  own_done caller run (deed.Finish number ruling) = finished_own caller number run ruling (own_run (doings_of setup history) caller number) refl
+  own_done caller run (deed.Park number why) = parked_own caller number run why (own_run (doings_of setup history) caller number) refl
+  own_done caller run (deed.Tick moment) = ap (λ d. own_run (d ∷ doings_of setup history) caller run) (tick_does setup history caller moment)
 
   -- what an entry does to the live runs of each caller
   pub runs_after : (entry : Entry) → RunsAfter setup history entry
+  unfolding effect_to
   runs_after entry = record {
-    own = λ run. ap (λ past. own_run past entry.caller run) (doings_grow setup history entry) ∙ own_done entry.caller run entry.deed;
+    own = λ run. ap (λ doings. own_run doings entry.caller run) (doings_grow setup history entry) ∙ own_done entry.caller run entry.deed;
     others = λ caller run apart. own_stays setup history (entry ∷ []) caller run (apart, tt);
   }
+
+-- the live runs after an act that a book entered
+pub runs_entered : (setup : Setup) (history : List Entry) (caller : ℕ) (a : Act) → host.IsLawful setup history → RunsAfter setup history (entry_of caller a)
+runs_entered setup history caller a lawful = runs_after setup history lawful.few lawful.legal (entry_of caller a)

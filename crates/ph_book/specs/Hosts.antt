@@ -19,7 +19,7 @@ pub record Answers (setup : Setup) (history : List Entry) (entry : Entry) (answe
 
 -- after a history a caller may do this: it ends a live run of its own by its own ticket, where it ends one, and a moment is one that a clock shows
 pub record Allows (setup : Setup) (history : List Entry) (caller : ℕ) (act : Act) : Type 0 where
-  pub caller : caller < 2 ^ 62
+  pub small : caller < 2 ^ 62
   pub own : SpendsOwn setup history caller act
   pub clock : IsWithinClock (deed_of act)
 

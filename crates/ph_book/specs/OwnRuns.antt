@@ -27,6 +27,13 @@ after_deed caller place (deed.Finish number ruling) said run had = after_end num
 after_deed caller place (deed.Park number why) said run had = after_end number run had
 after_deed caller place (deed.Tick moment) said run had = had
 
+-- the number of the run that a deed is to end
+abbrev pub ended_run : Deed → Option ℕ
+ended_run (deed.Call raw) = None
+ended_run (deed.Finish number ruling) = Some number
+ended_run (deed.Park number why) = Some number
+ended_run (deed.Tick moment) = None
+
 -- the live runs of a caller after a history
 abbrev pub own_of : Setup → List Entry → ℕ → ℕ → Option Flight
 own_of setup history caller run = own_run (doings_of setup history) caller run
@@ -36,3 +43,7 @@ pub record RunsAfter (setup : Setup) (history : List Entry) (entry : Entry) : Ty
   pub own : (run : ℕ) → own_of setup (history ++ entry ∷ []) entry.caller run
       ≡ after_deed entry.caller (length history + 1) entry.deed (said_to setup history entry) run (own_of setup history entry.caller run)
   pub others : (caller run : ℕ) → entry.caller ≢ caller → own_of setup (history ++ entry ∷ []) caller run ≡ own_of setup history caller run
+
+-- a caller has no live run after a history that it hadn't after another
+abbrev pub NoMoreOwn : Setup → ℕ → List Entry → List Entry → Type 0
+NoMoreOwn setup caller old new = (run : ℕ) (flight : Flight) → own_of setup new caller run ≡ Some flight → own_of setup old caller run ≡ Some flight

@@ -1,5 +1,5 @@
 -- What is allowed stays allowed while others act. The lemmas stand here, beside the definitions, and call no tactic, since a law of the book as an object needs them.
-use Rattle.std.specs.Prelude.{◌≡◌, ◌≢◌, ℕ, suc, ◌+◌, ◌==◌, Bool, cond, List, [], ◌∷◌, ◌++◌, length, Option, Some, None}
+use Rattle.std.specs.Prelude.{◌≡◌, ◌≢◌, ℕ, suc, ◌+◌, ◌==◌, cond, List, [], ◌∷◌, ◌++◌, length, Option, Some, None}
 use Rattle.std.specs.List.{fold}
 use Rattle.std.proofs.Common.{refl, sym, ap, ◌∙◌, subst}
 use Rattle.std.proofs.lemmas.Bool.{eqb-true, ne_eqb}
@@ -133,7 +133,8 @@ own_stays setup history more caller run none =
     ap (λ past. own_run (doings_after past) caller run) (fold-append (and_then setup) [] history more)
     ∙ own_beside_all setup (past_of setup history) more caller run (history_numbers setup history) none
 
-held_stays : (setup : Setup) (history more : List Entry) (caller : ℕ) (ticket : Flight) → NoneOf caller_of caller more
+-- so its tickets stay those of live runs
+pub held_stays : (setup : Setup) (history more : List Entry) (caller : ℕ) (ticket : Flight) → NoneOf caller_of caller more
     → Holds setup history caller ticket → Holds setup (history ++ more) caller ticket
 unfolding Holds
 held_stays setup history more caller ticket none holds = own_stays setup history more caller ticket.run none ∙ holds
@@ -149,7 +150,7 @@ spends_stays setup history more caller (act.Tick moment) none own = own
 pub stays_allowed : (setup : Setup) (history more : List Entry) (caller : ℕ) (a : Act) → NoneOf caller_of caller more
     → Allows setup history caller a → Allows setup (history ++ more) caller a
 stays_allowed setup history more caller a none allowed = record {
-  caller = allowed.caller;
+  small = allowed.small;
   own = spends_stays setup history more caller a none allowed.own;
   clock = allowed.clock;
 }

@@ -12,7 +12,9 @@ ghost use Rattle.ph_book.specs.Entries.{IsGranted, IsWithinClock, call_entry, de
 ghost use Rattle.ph_book.specs.History.{effect_to, opening_row, replies_of, said_to, time_of};
 ghost use Rattle.ph_book.specs.Queries.{Sees};
 ghost use Rattle.ph_book.specs.Replies.{Replies, Silence, park_reply};
+ghost use Rattle.ph_book.specs.Hosts.{IsLawful};
 ghost use Rattle.ph_book.specs.Legal.{is_full, IsLegal};
+ghost use Rattle.ph_book.specs.OwnRuns.{RunsAfter};
 ghost use Rattle.ph_book.specs.Tickets.{HandsOut, Holds, SpendsOwn};
 
 use crate::acts::{Act, Answer, Deed, Entry, Query};
@@ -101,7 +103,7 @@ impl Book {
 
     /// Enters an act of a caller as one entry and answers it, or hands it back and changes nothing. A park is never
     /// refused, and takes no memory.
-    #[tactic(auto, using(crate::proofs::HistoryLemmas::replies_grow))]
+    #[tactic(auto, using(crate::proofs::HistoryLemmas::replies_grow, crate::proofs::HistoryLemmas::lawful_entered, crate::proofs::OwnRunLemmas::runs_entered))]
     pub fn apply(&mut self, caller: u64, act: Act) -> Result<Answer, (Act, Refused)>
         requires caller { caller < 2 ^ 62 }
         requires own { SpendsOwn self.old.setup self.old.history caller act }
@@ -116,7 +118,10 @@ impl Book {
         ensures full { IfErr result (λ refused. (refused.1 ≡ Refused.Full) ↔ IsTrue (is_full self.old.setup self.old.history (deed_of act))) }
         ensures room { OnOk result (is_full self.old.setup self.old.history (deed_of act) ≡ false) }
         ensures granted { OnErr result (IsGranted act → ⊥) }
+        ensures lawful { IsLawful self.new.setup self.new.history }
+        ensures runs { OnOk result (RunsAfter self.old.setup self.old.history (entry_of caller act)) }
     {
+        self.lawful();
         match act {
             Act::Call(raw) => match self.call(caller, raw) {
                 Ok(answer) => Ok(answer),
@@ -132,6 +137,13 @@ impl Book {
                 Err(refused) => Err((Act::Tick(moment), refused)),
             },
         }
+    }
+
+    // Its history is legal.
+    fn lawful(&self)
+        ensures { IsLawful self.now.setup self.now.history }
+    {
+        few_entries(self.setup.entries);
     }
 
     // Enters a call.

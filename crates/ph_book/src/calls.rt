@@ -106,13 +106,7 @@ fn make(
     ensures { Comes (Makes (created store.now.rows call.now batch.old)) result batch.new }
 {
     if call.confirm {
-        begun(begin(
-            alloc,
-            store,
-            PLATFORM,
-            &Begin::Create(call),
-            batch,
-        ))
+        begun(begin(alloc, store, PLATFORM, &Begin::Create(call), batch))
     } else {
         added(create(alloc, store, PLATFORM, call, batch))
     }

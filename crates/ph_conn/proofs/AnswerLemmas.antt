@@ -1,8 +1,9 @@
 -- A request that is entered, with its run and its reply.
-use Rattle.std.proofs.Common.{◌≡◌, ◌≢◌, ℕ, ◌+◌, ◌≤◌, ◌==◌, ◌||◌, Bool, true, false, ◌++◌, ◌∷◌, ◌∙◌, List, [], length, map, Option, Some, None, Result, Ok, Err, IsTrue, refl, sym, ap, subst, append_assoc, arith}
+use Rattle.std.proofs.Common.{◌≡◌, ◌≢◌, ℕ, ◌+◌, ◌^◌, ◌<◌, ◌≤◌, ◌==◌, ◌||◌, Bool, true, false, ◌++◌, ◌∷◌, ◌∙◌, List, [], length, map, Option, Some, None, Result, Ok, Err, IsTrue, refl, sym, ap, subst, append_assoc, arith}
 use Rattle.std.proofs.lemmas.List.{append-nil, length-map, map-append}
 use Rattle.ph_base.specs.Counts.{Rose}
 use Rattle.ph_base.specs.declared.acquirer.Ruling.{Ruling}
+use Rattle.ph_base.specs.declared.acquirer.Ruling.TheVariants as ruling
 use Rattle.ph_base.specs.declared.acquirer.Why.{Why}
 use Rattle.ph_base.specs.declared.acquirer.Why.TheVariants as why
 use Rattle.ph_attempts.specs.declared.flights.Flight.{Flight}
@@ -27,9 +28,10 @@ use Rattle.ph_book.specs.declared.hosted.Kept.TheVariants as kept
 use Rattle.ph_book.specs.declared.setup.Setup.{Setup}
 use Rattle.ph_book.specs.Answers.{IsRuled, Says, is_ruled}
 use Rattle.ph_book.specs.Entries.{call_entry, entry_of}
+use Rattle.ph_book.specs.Tickets.{Holds}
 use Rattle.ph_book.specs.Replies.{Said, Replies, Waits, Silence, park_reply}
 use Rattle.ph_conn.specs.Answers.{Answers, BreaksFor, Comes, Ended, Idles, Settles, Took, end_act}
-use Rattle.ph_conn.specs.Fronts.{Filed, Known, IsSame, KeepsLive, OnlySaw, Entered, entries_in, filed, live_in, said_behind}
+use Rattle.ph_conn.specs.Fronts.{Filed, Known, IsSame, KeepsLive, OnlySaw, Entered, entries_in, filed, live_in, said_behind, MayDo}
 use Rattle.ph_conn.specs.Means.{Means, Counted, RoseBy}
 use Rattle.ph_conn.specs.Parts.{Ending, Settled, GivenUp, Drive, Run, Part, EndsBy, EndsAs, Follows, IsRun, IsReplyOf, IsReplyTo, Stands, behind, call_filed, called, end_entry, end_filed, entries_of, place_behind, asks_by, DriveDecided, failures, failures_in, refusals, refusals_in, grants, drives, if_driven, is_out, is_out_in, first_mark, mark_of, IsWell}
 use Rattle.ph_conn.specs.Sends.{IsWritable}
@@ -37,7 +39,7 @@ use Rattle.ph_conn.specs.declared.answers.Outcome.{Outcome}
 use Rattle.ph_conn.specs.declared.answers.Outcome.TheVariants as outcome
 use Rattle.ph_conn.specs.declared.endings.TalkError.{TalkError}
 use Rattle.ph_conn.specs.declared.endings.TalkError.TheVariants as fault
-use Rattle.ph_conn.proofs.FrontLemmas.{as_before, starts-twice}
+use Rattle.ph_conn.proofs.FrontLemmas.{as_before, saw_then_entered}
 use Rattle.ph_conn.proofs.LiveLemmas.{live-replied, live-ended}
 use Rattle.ph_conn.proofs.PartLemmas.{and_asks-none, counted-none}
 
@@ -87,12 +89,9 @@ took_reply {old} {new} {raw} {reply} {mark} link counts e =
 -- ---- a call that waits
 
 -- the reply to the end of a run, by its kind
-ruled_is_no_park : (status : ℕ) → is_ruled status ≡ true → status ≢ 500
-ruled_is_no_park status ruled is = let both : is_ruled 500 ≡ true = ap is_ruled (sym is) ∙ ruled in cc
-
-end_replied : {old new : Known} {ticket : Flight} {reply : Reply} {mark : Kept} (ending : Ending) → Ended old new ticket ending reply mark → IsReplyOf ending reply
-end_replied {reply = reply} (Settled ruling) e = ruled_is_no_park reply.status e.answered.kind
-end_replied {reply = reply} (GivenUp reason) e = reply_is e.answered.kind
+end_replied : {old new : Known} {reply : Reply} {mark : Kept} (ticket : Flight) (ending : Ending) → Ended old new ticket ending reply mark → IsReplyOf ending reply
+end_replied {reply = reply} ticket (Settled ruling) e = e.answered.kind
+end_replied {reply = reply} ticket (GivenUp reason) e = reply_is e.answered.kind
   where
     reply_in : Answer → Reply
     reply_in (answer.Reply given) = given
@@ -170,13 +169,13 @@ pub record Ran (means0 means1 : Means) (raw : Raw) (reply : Reply) (marked : Kep
   pub out_is : is_out part.run ≡ out
 
 -- where nothing of the setup or the caller changed by name
-ran : {old new : Known} {front : List Filed} {mine : List (ℕ × Filed)} {raw : Raw} {ticket : Flight} {mark end : Kept} {ending : Ending} {reply : Reply} {link0 link1 : Link} {counts0 counts1 : Granted} {drive : Option Drive}
+ran : {old new : Known} {front : List Filed} {mine : List (ℕ × Filed)} {raw : Raw} {mark end : Kept} {reply : Reply} {link0 link1 : Link} {counts0 counts1 : Granted} {drive : Option Drive} (ticket : Flight) (ending : Ending)
     → (e : Entered old (record { setup = old.setup; caller = old.caller; front = front; mine = mine }) (act.Call raw) (answer.Wait ticket) mark)
     → Drove link0 link1 counts0 counts1 ticket.order drive ending
     → (f : Ended (record { setup = old.setup; caller = old.caller; front = front; mine = mine }) new ticket ending reply end)
     → EndsAs ticket.order mark drive ending
     → Ran (record { known = old; link = link0; counts = counts0 }) (record { known = new; link = link1; counts = counts1 }) raw reply (first_mark mark end) (is_out_in ending)
-ran {old} {new} {front} {mine} {raw} {ticket} {mark} {end} {ending} {reply} {link0} {link1} {counts0} {counts1} {drive} e drove f ends =
+ran {old} {new} {front} {mine} {raw} {mark} {end} {reply} {link0} {link1} {counts0} {counts1} {drive} ticket ending e drove f ends =
     let run : Run = record { order = ticket.order; drive = drive; before = f.before; ending = ending; kept = end } in
     let part : Part = record { raw = raw; before = e.before; kept = mark; run = Some run } in
     let waited = said_wait (length (entries_in e.before) + 1) old.caller (said_behind old.setup e.before (call_entry old.caller raw)) ticket e.answered.says in
@@ -187,7 +186,7 @@ ran {old} {new} {front} {mine} {raw} {ticket} {mark} {end} {ending} {reply} {lin
       part = part;
       raw_is = refl;
       took = record {
-        same = f.same;
+        same = record { setup = f.same.setup; caller = f.same.caller; legal = f.same.legal };
         stands = (e.seen, subst (StartsWith f.before) e.front f.seen);
         front = ([], f.front ∙ ap (λ (en : Entry). f.before ++ record { entry = en; kept = end } ∷ []) entry ∙ sym (append-nil (behind old.caller part)));
         entered_once = f.mine
@@ -197,28 +196,28 @@ ran {old} {new} {front} {mine} {raw} {ticket} {mark} {end} {ending} {reply} {lin
         follows = subst (λ s. Follows s mark (Some run)) (sym waited.0) (record { of = refl; ends = ends });
         replied = record {
           said = ap (λ (en : Entry). said_behind old.setup f.before en) (sym entry) ∙ replied;
-          replied = end_replied ending f;
+          replied = end_replied ticket ending f;
         };
         status = f.answered.status;
         asked = drove.asked;
         decided = drove.decided;
         decisions = drove.decisions;
         counted = drove.counted old new;
-        nothing_left_live = live-ended e f;
+        nothing_left_live = live-ended ticket ending e f waited.0 (ap (λ (t : Flight). t.run) waited.1);
       };
       marked_is = refl;
       out_is = refl;
     }
 
 -- the call, its drive and the end of its run are one part
-pub took_run : {old middle new : Known} {raw : Raw} {ticket : Flight} {mark end : Kept} {ending : Ending} {reply : Reply} {link0 link1 : Link} {counts0 counts1 : Granted} {drive : Option Drive}
+pub took_run : {old middle new : Known} {raw : Raw} {mark end : Kept} {reply : Reply} {link0 link1 : Link} {counts0 counts1 : Granted} {drive : Option Drive} (ticket : Flight) (ending : Ending)
     → Entered old middle (act.Call raw) (answer.Wait ticket) mark → Drove link0 link1 counts0 counts1 ticket.order drive ending → Ended middle new ticket ending reply end
     → EndsAs ticket.order mark drive ending
     → Ran (record { known = old; link = link0; counts = counts0 }) (record { known = new; link = link1; counts = counts1 }) raw reply (first_mark mark end) (is_out_in ending)
-took_run {old} {middle} {new} {raw} {ticket} {mark} {end} {ending} {reply} {link0} {link1} {counts0} {counts1} {drive} e drove f ends =
+took_run {old} {middle} {new} {raw} {mark} {end} {reply} {link0} {link1} {counts0} {counts1} {drive} ticket ending e drove f ends =
     subst (λ (k : Known). Entered old k (act.Call raw) (answer.Wait ticket) mark → Ended k new ticket ending reply end
         → Ran (record { known = old; link = link0; counts = counts0 }) (record { known = new; link = link1; counts = counts1 }) raw reply (first_mark mark end) (is_out_in ending))
-    (sym (as_before old middle e.same.setup e.same.caller)) (λ e' f'. ran e' drove f' ends) e f
+    (sym (as_before old middle e.same.setup e.same.caller)) (λ e' f'. ran ticket ending e' drove f' ends) e f
 
 -- ---- answers
 
@@ -269,63 +268,111 @@ is_replied {mark = kept.Failed} link counts outcome.NoMemory e comes = absurd (c
 is_replied {mark = kept.NoMemory} link counts outcome.NoMemory e comes = absurd (cc)
 
 -- a call that waits and is kept, by the end of its drive
-pub settles : {old middle new : Known} {raw : Raw} {ticket : Flight} {link0 link1 : Link} {counts0 counts1 : Granted} {end : Driven} (what : Outcome)
+pub settles : {old middle : Known} {raw : Raw} {ticket : Flight} {link0 link1 : Link} {end : Driven} (new : Known) (counts0 counts1 : Granted) (what : Outcome)
     → Entered old middle (act.Call raw) (answer.Wait ticket) kept.Yes → Drives link0 link1 ticket.order counts0.grants counts1.grants end
     → counts1.starts ≡ next_count counts0.starts → counts0.refusals ≤ counts1.refusals
     → (end ≡ driven.Failed → Rose link0.faults link1.faults) → (end ≡ driven.GaveUp → Rose counts0.refusals counts1.refusals)
     → Settles middle new ticket end what
     → Answers (record { known = old; link = link0; counts = counts0 }) (record { known = new; link = link1; counts = counts1 }) raw what
-settles (outcome.Reply reply) e d starts refused failed gave_up s =
-    let r = took_run e (was_driven s.0 d starts refused failed gave_up s.2) s.1 (d.ends, s.2) in
+settles {ticket = ticket} new counts0 counts1 (outcome.Reply reply) e d starts refused failed gave_up s =
+    let r = took_run ticket s.0 e (was_driven s.0 d starts refused failed gave_up s.2) s.1 (d.ends, s.2) in
     (r.part, r.raw_is, r.took, record { marked = r.marked_is; had_memory = r.out_is ∙ s.3 })
-settles outcome.Parked e d starts refused failed gave_up s =
-    let r = took_run e (was_driven (GivenUp why.NoMemory) d starts refused failed gave_up s.1) s.0 (d.ends, s.1) in
+settles {ticket = ticket} new counts0 counts1 outcome.Parked e d starts refused failed gave_up s =
+    let r = took_run ticket (GivenUp why.NoMemory) e (was_driven (GivenUp why.NoMemory) d starts refused failed gave_up s.1) s.0 (d.ends, s.1) in
     (r.part, r.raw_is, r.took, r.marked_is, r.out_is)
-settles (outcome.Unkept why) e d starts refused failed gave_up s =
-    let r = took_run e (was_driven s.0 d starts refused failed gave_up s.4) s.3 (d.ends, s.4) in
+settles {ticket = ticket} new counts0 counts1 (outcome.Unkept why) e d starts refused failed gave_up s =
+    let r = took_run ticket s.0 e (was_driven s.0 d starts refused failed gave_up s.4) s.3 (d.ends, s.4) in
     (r.part, s.1, r.raw_is, r.took, subst (λ out. BreaksFor out (mark_of r.part) why) (sym r.out_is) (subst (λ m. BreaksFor (is_out_in s.0) m why) (sym r.marked_is) s.5))
-settles outcome.Full e d starts refused failed gave_up s = absurd s
-settles outcome.NoMemory e d starts refused failed gave_up s = absurd s
+settles new counts0 counts1 outcome.Full e d starts refused failed gave_up s = absurd s
+settles new counts0 counts1 outcome.NoMemory e d starts refused failed gave_up s = absurd s
 
 -- a call that waits and isn't kept: its run is given up for that, whatever the end's mark
-pub gives_up : {old middle new : Known} {raw : Raw} {ticket : Flight} {mark end : Kept} {reply : Reply} (link : Link) (counts : Granted) (reason : Why) (why : TalkError)
+pub gives_up : {old middle new : Known} {raw : Raw} {reply : Reply} (ticket : Flight) (mark end : Kept) (link : Link) (counts : Granted) (reason : Why) (why : TalkError)
     → Entered old middle (act.Call raw) (answer.Wait ticket) mark → Ended middle new ticket (GivenUp reason) reply end
     → EndsAs ticket.order mark None (GivenUp reason) → BreaksFor (is_out_in (GivenUp reason)) (first_mark mark end) why
     → Answers (record { known = old; link = link; counts = counts }) (record { known = new; link = link; counts = counts }) raw (outcome.Unkept why)
-gives_up {ticket = ticket} {reply = reply} link counts reason why e f ends breaks =
-    let r = took_run e (not_driven link counts ticket.order (GivenUp reason)) f ends in
+gives_up {reply = reply} ticket mark end link counts reason why e f ends breaks =
+    let r = took_run ticket (GivenUp reason) e (not_driven link counts ticket.order (GivenUp reason)) f ends in
     (r.part, reply, r.raw_is, r.took, subst (λ out. BreaksFor out (mark_of r.part) why) (sym r.out_is) (subst (λ m. BreaksFor (is_out_in (GivenUp reason)) m why) (sym r.marked_is) breaks))
 
 -- ---- the end of a run, by what it comes to
 
-pub settled_as : {old new : Known} {ticket : Flight} {end : Driven} {reply : Reply} {mark : Kept} (ending : Ending) (what : Outcome) → Ended old new ticket ending reply mark → EndsBy end ending
+pub settled_as : {old new : Known} {reply : Reply} (ticket : Flight) (end : Driven) (mark : Kept) (ending : Ending) (what : Outcome) → Ended old new ticket ending reply mark → EndsBy end ending
     → is_out_in ending ≡ false → Comes reply mark what → Settles old new ticket end what
-settled_as {old} {new} {ticket} {end} {reply} {mark} ending (outcome.Reply given) e ends had comes =
+settled_as {old} {new} {reply} ticket end mark ending (outcome.Reply given) e ends had comes =
     let well = comes-well mark reply given comes in
     (ending, subst (λ (r : Reply). Ended old new ticket ending r kept.Yes) well.1 (subst (Ended old new ticket ending reply) well.0 e), ends, had)
-settled_as {old} {new} {ticket} {end} {reply} {mark} ending (outcome.Unkept why) e ends had comes =
+settled_as {old} {new} {reply} ticket end mark ending (outcome.Unkept why) e ends had comes =
     (ending, reply, mark, e, ends, subst (λ out. BreaksFor out mark why) (sym had) (comes-unkept mark reply why comes))
-settled_as {mark = kept.Yes} ending outcome.Parked e ends had comes = absurd (cc)
-settled_as {mark = kept.Failed} ending outcome.Parked e ends had comes = absurd (cc)
-settled_as {mark = kept.NoMemory} ending outcome.Parked e ends had comes = absurd (cc)
-settled_as {mark = kept.Yes} ending outcome.Full e ends had comes = absurd (cc)
-settled_as {mark = kept.Failed} ending outcome.Full e ends had comes = absurd (cc)
-settled_as {mark = kept.NoMemory} ending outcome.Full e ends had comes = absurd (cc)
-settled_as {mark = kept.Yes} ending outcome.NoMemory e ends had comes = absurd (cc)
-settled_as {mark = kept.Failed} ending outcome.NoMemory e ends had comes = absurd (cc)
-settled_as {mark = kept.NoMemory} ending outcome.NoMemory e ends had comes = absurd (cc)
+settled_as ticket end kept.Yes ending outcome.Parked e ends had comes = absurd (cc)
+settled_as ticket end kept.Failed ending outcome.Parked e ends had comes = absurd (cc)
+settled_as ticket end kept.NoMemory ending outcome.Parked e ends had comes = absurd (cc)
+settled_as ticket end kept.Yes ending outcome.Full e ends had comes = absurd (cc)
+settled_as ticket end kept.Failed ending outcome.Full e ends had comes = absurd (cc)
+settled_as ticket end kept.NoMemory ending outcome.Full e ends had comes = absurd (cc)
+settled_as ticket end kept.Yes ending outcome.NoMemory e ends had comes = absurd (cc)
+settled_as ticket end kept.Failed ending outcome.NoMemory e ends had comes = absurd (cc)
+settled_as ticket end kept.NoMemory ending outcome.NoMemory e ends had comes = absurd (cc)
 
 -- the reply of a run that was given up is that of the reason
-pub park-replied : {old new : Known} {ticket : Flight} {reply : Reply} {mark : Kept} (reason : Why) → Ended old new ticket (GivenUp reason) reply mark
+pub park-replied : {old new : Known} {reply : Reply} {mark : Kept} (ticket : Flight) (reason : Why) → Ended old new ticket (GivenUp reason) reply mark
     → Ended old new ticket (GivenUp reason) (park_reply reason) mark
-park-replied {old} {new} {ticket} {reply} {mark} reason e = subst (λ (r : Reply). Ended old new ticket (GivenUp reason) r mark) (end_replied (GivenUp reason) e) e
+park-replied {old} {new} {reply} {mark} ticket reason e = subst (λ (r : Reply). Ended old new ticket (GivenUp reason) r mark) (end_replied ticket (GivenUp reason) e) e
+
+-- a ticket that came back is spent by a park
+pub came_back : {old middle new : Known} {reply : Reply} {mark : Kept} (back ticket : Flight) (reason : Why) → back ≡ ticket → OnlySaw old middle → Ended middle new back (GivenUp reason) reply mark
+    → Ended old new ticket (GivenUp reason) reply mark
+came_back {old} {middle} {new} {reply} {mark} back ticket reason same saw e =
+    subst (λ (t : Flight). Ended old new t (GivenUp reason) reply mark) same
+    (saw_then_entered {act = act.Park back reason} {given = answer.Reply reply} saw e)
+
+-- for want of memory for its ruling a run was given up, and that is kept
+pub out_kept : {old new : Known} {reply : Reply} {mark : Kept} (ticket : Flight) (end : Driven) (ruling : Ruling) → end ≡ driven.Ready ruling → mark ≡ kept.Yes
+    → Ended old new ticket (GivenUp why.NoMemory) reply mark → Settles old new ticket end outcome.Parked
+out_kept {old} {new} {reply} {mark} ticket end ruling is marked e =
+    (subst (Ended old new ticket (GivenUp why.NoMemory) (park_reply why.NoMemory)) marked (park-replied ticket why.NoMemory e), subst (λ d. EndsBy d (GivenUp why.NoMemory)) (sym is) refl)
+
+-- or isn't
+pub out_unkept : {old new : Known} {reply : Reply} {mark : Kept} (ticket : Flight) (end : Driven) (ruling : Ruling) → end ≡ driven.Ready ruling → BreaksFor true mark fault.NoMemory
+    → Ended old new ticket (GivenUp why.NoMemory) reply mark → Settles old new ticket end (outcome.Unkept fault.NoMemory)
+out_unkept {old} {new} {reply} {mark} ticket end ruling is breaks e =
+    (GivenUp why.NoMemory, reply, mark, e, subst (λ d. EndsBy d (GivenUp why.NoMemory)) (sym is) refl, breaks)
+
+pub breaks_out : (mark : Kept) → mark ≡ kept.Failed → BreaksFor true mark fault.NoMemory
+breaks_out mark is = subst (λ m. BreaksFor true m fault.NoMemory) (sym is) refl
+
+pub breaks_too : (mark : Kept) → mark ≡ kept.NoMemory → BreaksFor true mark fault.NoMemory
+breaks_too mark is = subst (λ m. BreaksFor true m fault.NoMemory) (sym is) refl
+
+-- who may finish a run may park it
+pub may_park : (known : Known) (ticket : Flight) (ruling : Ruling) (reason : Why) → MayDo known (act.Finish ticket ruling) → MayDo known (act.Park ticket reason)
+may_park known ticket ruling reason may = record { small = may.small; own = may.own; clock = tt }
+
+-- and whose call waits may finish its run
+pub may_finish : {old new : Known} {raw : Raw} {mark : Kept} (ticket : Flight) (ruling : Ruling) → Entered old new (act.Call raw) (answer.Wait ticket) mark → new.caller < 2 ^ 62
+    → MayDo new (act.Finish ticket ruling)
+may_finish {old} {new} {raw} {mark} ticket ruling e small =
+    let entries : entries_in new.front ≡ entries_in e.before ++ call_entry old.caller raw ∷ [] =
+    ap entries_in e.front ∙ map-append (λ (f : Filed). f.entry) e.before (filed old.caller (act.Call raw) mark ∷ []) in
+    record {
+      small = small;
+      own = subst (λ (s : Setup). Holds s (entries_in new.front) new.caller ticket) (sym e.same.setup)
+          (subst (λ (c : ℕ). Holds old.setup (entries_in new.front) c ticket) (sym e.same.caller)
+          (subst (λ (h : List Entry). Holds old.setup h old.caller ticket) (sym entries) e.answered.live));
+      clock = tt;
+    }
+
+-- whose call waits may park its run
+pub may_give_up : {old new : Known} {raw : Raw} {mark : Kept} (ticket : Flight) (reason : Why) → Entered old new (act.Call raw) (answer.Wait ticket) mark → new.caller < 2 ^ 62
+    → MayDo new (act.Park ticket reason)
+may_give_up {old} {new} {raw} {mark} ticket reason e small = may_park new ticket ruling.Approved reason (may_finish ticket ruling.Approved e small)
 
 -- ---- replies that are written
 
 -- the reply has a status that replies are written with
-pub writable : {means0 means1 : Means} {raw : Raw} (what : Outcome) → Answers means0 means1 raw what → IsWritable what
-writable (outcome.Reply reply) answers = answers.2.status
-writable outcome.Parked answers = tt
-writable (outcome.Unkept why) answers = tt
-writable outcome.Full answers = tt
-writable outcome.NoMemory answers = tt
+pub writable : (means0 means1 : Means) (raw : Raw) (what : Outcome) → Answers means0 means1 raw what → IsWritable what
+writable means0 means1 raw (outcome.Reply reply) answers = answers.2.status
+writable means0 means1 raw outcome.Parked answers = tt
+writable means0 means1 raw (outcome.Unkept why) answers = tt
+writable means0 means1 raw outcome.Full answers = tt
+writable means0 means1 raw outcome.NoMemory answers = tt

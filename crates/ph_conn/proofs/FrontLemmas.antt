@@ -6,7 +6,7 @@ use Rattle.ph_book.specs.declared.acts.Act.{Act}
 use Rattle.ph_book.specs.declared.acts.Answer.{Answer}
 use Rattle.ph_book.specs.declared.hosted.Kept.{Kept}
 use Rattle.ph_book.specs.declared.setup.Setup.{Setup}
-use Rattle.ph_conn.specs.Fronts.{Filed, Known, IsSame, KeepsLive, OnlySaw, Entered}
+use Rattle.ph_conn.specs.Fronts.{Filed, Known, IsSame, KeepsLive, OnlySaw, Entered, filed}
 
 pub starts-itself : {E : Type 0} (xs : List E) → StartsWith xs xs
 starts-itself xs = ([], sym (append-nil xs))
@@ -14,9 +14,9 @@ starts-itself xs = ([], sym (append-nil xs))
 pub starts-more : {E : Type 0} (xs more : List E) → StartsWith (xs ++ more) xs
 starts-more xs more = (more, refl)
 
-pub starts-twice : {E : Type 0} {first middle last : List E} → StartsWith middle first → StartsWith last middle → StartsWith last first
-starts-twice {E} {first} {middle} {last} one two =
-    (one.0 ++ two.0, two.1 ∙ ap (λ (xs : List E). xs ++ two.0) one.1 ∙ append_assoc first one.0 two.0)
+pub starts-twice : {E : Type 0} (first middle last : List E) → StartsWith middle first → StartsWith last middle → StartsWith last first
+starts-twice first middle last one two =
+    (one.0 ++ two.0, two.1 ∙ ap (λ xs. xs ++ two.0) one.1 ∙ append_assoc first one.0 two.0)
 
 -- what is known, with the setup and the caller of what was known before
 pub as_before : (old new : Known) → new.setup ≡ old.setup → new.caller ≡ old.caller
@@ -33,11 +33,13 @@ saw_then_entered {old} {middle} {new} {act} {given} {mark} saw entered =
     let e : Entered again new act given mark = subst (λ (k : Known). Entered k new act given mark) is entered in
     let kept : KeepsLive old again = subst (λ (k : Known). KeepsLive old k) is saw.live in
     record {
-      same = e.same;
+      same = record { setup = e.same.setup; caller = e.same.caller; legal = e.same.legal };
       before = e.before;
-      seen = starts-twice saw.front e.seen;
+      seen = starts-twice old.front middle.front e.before saw.front e.seen;
       live = λ run. e.live run ∙ kept run;
       front = e.front;
-      mine = e.mine ∙ ap (λ (own : List (ℕ × Filed)). own ++ (length e.before + 1, _) ∷ []) saw.mine;
+      mine = e.mine ∙ ap (λ (own : List (ℕ × Filed)). own ++ (length e.before + 1, filed old.caller act mark) ∷ []) saw.mine;
       answered = e.answered;
+      runs = e.runs;
+      fresh = e.fresh;
     }

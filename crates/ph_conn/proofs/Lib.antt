@@ -1,8 +1,12 @@
 mod AnswerLemmas
+mod DeskLemmas
 mod FrontLemmas
 mod ItemFacts
+mod KeptLemmas
+mod LawLemmas
 mod LiveLemmas
 mod PartLemmas
+mod PlaceLemmas
 mod ReadLemmas
 mod ServedLemmas
 mod SessionLemmas

@@ -1,5 +1,5 @@
 -- Parts of a session, one more behind others.
-use Rattle.std.proofs.Common.{◌≡◌, ◌≢◌, ℕ, zero, suc, ◌+◌, ◌∷◌, ◌++◌, false, List, [], length, Option, Some, None, refl, sym, ap, ◌∙◌, subst, append_assoc, arith}
+use Rattle.std.proofs.Common.{◌≡◌, ◌≢◌, ℕ, zero, suc, ◌+◌, ◌∷◌, ◌++◌, true, false, List, [], length, Option, Some, None, refl, sym, ap, ◌∙◌, subst, append_assoc, arith}
 use Rattle.std.proofs.lemmas.List.{append-nil, map-append}
 use Rattle.std.proofs.lemmas.Grind.{flat_map-append}
 use Rattle.ph_base.specs.Counts.{Rose}
@@ -19,6 +19,7 @@ use Rattle.ph_http.specs.declared.message.Reply.{Reply}
 use Rattle.ph_book.specs.declared.hosted.Kept.{Kept}
 use Rattle.ph_book.specs.declared.hosted.Kept.TheVariants as kept
 use Rattle.ph_book.specs.declared.setup.Setup.{Setup}
+use Rattle.ph_book.specs.Answers.{is_ruled}
 use Rattle.ph_book.specs.Entries.{call_entry}
 use Rattle.ph_book.specs.Replies.{Said, Replies, Waits, Silence, park_reply}
 use Rattle.ph_conn.specs.Fronts.{Filed, Known, said_behind}
@@ -31,20 +32,21 @@ use Rattle.ph_conn.proofs.FrontLemmas.{starts-more, starts-twice}
 -- the history up to the end of a part begins with what stood before the part
 behind-starts : (caller : ℕ) (first : List Filed) (part : Part) (run : Option Run) → StartsWith part.before first → Stands caller first (record part { run = run })
     → StartsWith (ended caller (place_behind part.before) (called caller part) run) first
-behind-starts caller first part None seen stands = starts-twice seen (starts-more part.before _)
+behind-starts caller first part None seen stands = starts-twice first part.before _ seen (starts-more part.before _)
 behind-starts caller first part (Some run) seen stands =
-    starts-twice (starts-twice (starts-twice seen (starts-more part.before _)) stands.1) (starts-more run.before _)
+    starts-twice first run.before _
+    (starts-twice first (called caller part) run.before (starts-twice first part.before (called caller part) seen (starts-more part.before _)) stands.1) (starts-more run.before _)
 
 pub part-starts : (caller : ℕ) (first : List Filed) (part : Part) → Stands caller first part → StartsWith (behind caller part) first
 part-starts caller first part stands = behind-starts caller first part part.run stands.0 stands
 
 pub stand-push : (caller : ℕ) (first now last : List Filed) (parts : List Part) (part : Part) → AllStand caller first now parts → Stands caller now part
     → StartsWith last (behind caller part) → AllStand caller first last (parts ++ part ∷ [])
-stand-push caller first now last [] part all is next = ((starts-twice all is.0, is.1), next)
+stand-push caller first now last [] part all is next = ((starts-twice first now part.before all is.0, is.1), next)
 stand-push caller first now last (part' ∷ parts) part all is next = (all.0, stand-push caller (behind caller part') now last parts part all.1 is next)
 
 pub stand-saw : (caller : ℕ) (first now last : List Filed) (parts : List Part) → AllStand caller first now parts → StartsWith last now → AllStand caller first last parts
-stand-saw caller first now last [] all saw = starts-twice all saw
+stand-saw caller first now last [] all saw = starts-twice first now last all saw
 stand-saw caller first now last (part ∷ parts) all saw = (all.0, stand-saw caller (behind caller part) now last parts all.1 saw)
 
 -- ---- entries
@@ -193,8 +195,12 @@ no_memory_status : (park_reply why.NoMemory).status ≡ 503
 unfolding error_of
 no_memory_status = refl
 
+-- a reply to a ruling is no reply to a park
+ruled_is_no_park : (status : ℕ) → is_ruled status ≡ true → status ≢ 500
+ruled_is_no_park status ruled is = let both : is_ruled 500 ≡ true = ap is_ruled (sym is) ∙ ruled in cc
+
 ending-answered : (ending : Ending) (reply : Reply) → IsReplyOf ending reply → failures_in ending ≡ 0 → refusals_in ending ≡ 0 → reply.status ≢ 500
-ending-answered (Settled ruling) reply is failed refused = is
+ending-answered (Settled ruling) reply is failed refused = ruled_is_no_park reply.status is
 ending-answered (GivenUp why.Pending) reply is failed refused = absurd (omega (arith, refused))
 ending-answered (GivenUp why.Failed) reply is failed refused = absurd (omega (arith, failed))
 ending-answered (GivenUp why.NoMemory) reply is failed refused =

@@ -33,7 +33,7 @@ use Rattle.ph_conn.specs.Sends.{Parts, PartsOut, Closes, Sends}
 use Rattle.ph_conn.specs.Served.{Halt, Stopped, AtCut, Open, served, halt_of, replies_text, next_line, output}
 use Rattle.ph_conn.specs.Session as session
 use Rattle.ph_conn.specs.Session.{Session, SoloSession, NextIsFull, EndsOut, RunsOut, Replying, Refusing, Filling, RunningOut, Out, NoMore}
-use Rattle.ph_conn.specs.Steps as steps
+use Rattle.ph_conn.specs.Steps as stepping
 use Rattle.ph_conn.specs.Steps.{Steps, ClosesKnown, closed_as, closes_if, is_last_of}
 use Rattle.ph_conn.specs.Texts.{line_for, tail_text, last_words}
 use Rattle.ph_conn.specs.declared.answers.Outcome.{Outcome}
@@ -46,7 +46,7 @@ use Rattle.ph_conn.specs.declared.reads.Fetched.{Fetched}
 use Rattle.ph_conn.specs.declared.reads.Fetched.TheVariants as fetched
 use Rattle.ph_conn.proofs.ItemFacts.{leads_then}
 use Rattle.ph_conn.proofs.PartLemmas.{requests-push, front-push}
-use Rattle.ph_conn.proofs.ServedLemmas.{Serves, serves-nothing, written, line-left, output-left, line-waiting, served-with, no-replies, reply_text, Took, took, goes_further, goes_no_further}
+use Rattle.ph_conn.proofs.ServedLemmas.{Serves, serves-nothing, written, line-left, output-left, line-waiting, served-with, no-replies, reply_text, TookText, took, goes_further, goes_no_further}
 use Rattle.ph_conn.proofs.WorkLemmas.{Grown, grown-nothing, grown-push, grown-saw, work-push, session_with, session_of}
 
 -- ---- the state of a session between two requests
@@ -602,7 +602,7 @@ pub record Done (limit i n : ℕ) (talk : TalkState) (raw : Raw) (means0 means1 
   pub requests : requests_of parts ≡ before ++ raw ∷ []
   pub count : length parts ≡ i + 1
   pub left_is : i + suc n ≡ limit
-  pub done : Took limit given before replies text raw continues n
+  pub done : TookText limit given before replies text raw continues n
   pub wrote : Takes output0 output1 text
 
 pub answered : {limit i n : ℕ} {talk : TalkState} {raw : Raw} {continues : Bool} {means0 means1 means2 : Means} {input0 input1 : SourceState} {output0 output1 output2 : SinkState} (last : Bool) (what : Outcome) (nothing : ⊤)
@@ -679,10 +679,10 @@ follows_asked : {limit i n : ℕ} {talk : TalkState} {raw : Raw} {means0 means1 
 follows_asked {i = i} true closes done = stops_asked (closed_as (i + 1) stop.Asked) refl done closes
 follows_asked false stays done = serves_on done stays
 
-pub follows : {limit i : ℕ} {talk new : TalkState} {means0 means1 means2 : Means} {input0 input1 input2 : SourceState} {output0 output1 output2 : SinkState} (what : Fetched) (end : Option (Result Closed TalkError)) → i < limit
+pub follows : {limit i : ℕ} {talk new : TalkState} {means0 means1 : Means} {input0 input1 input2 : SourceState} {output0 output1 : SinkState} (means2 : Means) (output2 : SinkState) (what : Fetched) (end : Option (Result Closed TalkError)) → i < limit
     → Serving limit i talk means0 means1 input0 input1 output0 output1 → Fetches talk new what input1 input2 → Steps limit i what end means1 means2 output1 output2
     → Follows limit i new end means0 means2 input0 input2 output0 output2
-follows {limit} {i} {talk} {new} {means0} {means1} {means2} {input0} {input1} {input2} {output0} {output1} {output2} what end below s fetches steps = at what fetches steps
+follows {limit} {i} {talk} {new} {means0} {means1} {input0} {input1} {input2} {output0} {output1} means2 output2 what end below s fetches steps = at what fetches steps
   where
     ends : (result : Result Closed TalkError) → end ≡ Some result → means2 ≡ means1 → Session result limit means0 means1 input0 input2 output0 output2
         → Follows limit i new end means0 means2 input0 input2 output0 output2
@@ -690,13 +690,13 @@ follows {limit} {i} {talk} {new} {means0} {means1} {means2} {input0} {input1} {i
         subst (λ (e : Option (Result Closed TalkError)). Follows limit i new e means0 means2 input0 input2 output0 output2) (sym is)
         (subst (λ (m : Means). Session result limit means0 m input0 input2 output0 output2) (sym same) done)
 
-    ends_as : (result : Result Closed TalkError) → steps.EndsAs result end means1 means2 output1 output2 → Session result limit means0 means1 input0 input2 output0 output1
+    ends_as : (result : Result Closed TalkError) → stepping.EndsAs result end means1 means2 output1 output2 → Session result limit means0 means1 input0 input2 output0 output1
         → Follows limit i new end means0 means2 input0 input2 output0 output2
     ends_as result as_is done = ends result as_is.end_is as_is.means (subst (λ (o : SinkState). Session result limit means0 means1 input0 input2 output0 o) (sym as_is.output) done)
 
-    sent : (raw : Raw) (continues : Bool) → Fetches talk new (fetched.Request raw continues) input1 input2 → (r : steps.Serves limit i raw continues end means1 means2 output1 output2)
+    sent : (raw : Raw) (continues : Bool) → Fetches talk new (fetched.Request raw continues) input1 input2 → (r : stepping.Serves limit i raw continues end means1 means2 output1 output2)
         → (got : Result ⊤ TalkError) → r.sent ≡ got → Sends r.what (is_last_of limit i raw.close) got r.middle output2
-        → Follows limit i new (steps.after_sending got (closes_if raw.close (i + 1))) means0 means2 input0 input2 output0 output2
+        → Follows limit i new (stepping.after_sending got (closes_if raw.close (i + 1))) means0 means2 input0 input2 output0 output2
     sent raw continues fetches r (Ok done) is sends =
         let waiting = waits raw continues below s fetches r.announced in
         follows_asked raw.close refl (answered (is_last_of limit i raw.close) r.what done refl waiting.1 r.answers sends)
@@ -713,6 +713,14 @@ follows {limit} {i} {talk} {new} {means0} {means1} {means2} {input0} {input1} {i
     at fetched.Cut fetches r = ends_as (Err fault.Cut) r (stops_cut below s fetches)
     at fetched.ReadFault fetches r = ends_as (Err fault.ReadFault) r (stops_read_fault below s fetches)
     at fetched.NoMemory fetches r = ends (Err r.why) r.end_is r.means (stops_out r.why s fetches r.parts)
+
+-- the same of a connection, whose sink a read leaves, and whose source a write leaves
+pub follows_on : {limit i : ℕ} {talk new : TalkState} {means0 means1 : Means} {input0 input1 input2 : SourceState} {output0 output1 : SinkState} (means2 : Means) (middle output2 : SinkState) (input3 : SourceState) (what : Fetched)
+    (end : Option (Result Closed TalkError)) → i < limit → Serving limit i talk means0 means1 input0 input1 output0 output1 → Fetches talk new what input1 input2 → Steps limit i what end means1 means2 middle output2
+    → middle ≡ output1 → input3 ≡ input2 → Follows limit i new end means0 means2 input0 input3 output0 output2
+follows_on {limit} {i} {talk} {new} {means0} {means1} {input0} {input1} {input2} {output0} {output1} means2 middle output2 input3 what end below s fetches steps read wrote =
+    subst (λ (x : SourceState). Follows limit i new end means0 means2 input0 x output0 output2) (sym wrote)
+    (follows means2 output2 what end below s fetches (subst (λ (o : SinkState). Steps limit i what end means1 means2 o output2) read steps))
 
 -- a session is closed with no other status than a closing one
 pub closes_known : {old new : TalkState} {input0 input1 : SourceState} (what : Fetched) → Fetches old new what input0 input1 → ClosesKnown what

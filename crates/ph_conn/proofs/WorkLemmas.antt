@@ -74,7 +74,8 @@ work-push {means0} {means1} {means2} {parts} {replies} {part} {reply} w t =
     let by = took_by setup caller w.same.setup w.same.caller t in
     record {
       same = record { setup = t.same.setup ∙ w.same.setup; caller = t.same.caller ∙ w.same.caller; legal = t.same.legal };
-      one_history = starts-twice w.one_history (starts-twice (part-starts caller means1.known.front part by.stands) by.front);
+      one_history = starts-twice means0.known.front means1.known.front means2.known.front w.one_history
+          (starts-twice means1.known.front (behind caller part) means2.known.front (part-starts caller means1.known.front part by.stands) by.front);
       entered_once = entered-push caller means0.known.mine means1.known.mine means2.known.mine parts part w.entered_once by.entered_once;
       stand = stand-push caller means0.known.front means1.known.front means2.known.front parts part w.stand by.stands by.front;
       followed = follow-push setup caller parts part w.followed by.follows;
@@ -92,7 +93,7 @@ work-saw {means0} {means1} {means2} {parts} {replies} w idles =
     let saw = idles.saw in
     record {
       same = record { setup = saw.same.setup ∙ w.same.setup; caller = saw.same.caller ∙ w.same.caller; legal = saw.same.legal };
-      one_history = starts-twice w.one_history saw.front;
+      one_history = starts-twice means0.known.front means1.known.front means2.known.front w.one_history saw.front;
       entered_once = saw.mine ∙ w.entered_once;
       stand = stand-saw means0.known.caller means0.known.front means1.known.front means2.known.front parts w.stand saw.front;
       followed = w.followed;

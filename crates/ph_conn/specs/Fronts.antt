@@ -1,5 +1,5 @@
 -- What a session knows of a history: a front of it, and which of its entries are the session's own.
-use Rattle.std.specs.Prelude.{◌≡◌, ℕ, ◌+◌, ◌^◌, ◌<◌, Bool, true, false, List, [], ◌∷◌, ◌++◌, length, map, Option}
+use Rattle.std.specs.Prelude.{◌≡◌, ℕ, ◌+◌, ◌^◌, ◌<◌, Bool, true, false, List, [], ◌∷◌, ◌++◌, length, map, Option, None}
 use Rattle.ph_attempts.specs.declared.flights.Flight.{Flight}
 use Rattle.ph_lock.specs.Histories.{StartsWith}
 use Rattle.atomic_table.specs.Seated.{TableId}
@@ -14,6 +14,7 @@ use Rattle.ph_book.specs.Entries.{entry_of}
 use Rattle.ph_book.specs.History.{doings_of, said_to}
 use Rattle.ph_book.specs.Hosts.{Answers, Allows}
 use Rattle.ph_book.specs.Legal.{IsLegal}
+use Rattle.ph_book.specs.OwnRuns.{RunsAfter}
 use Rattle.ph_book.specs.Replies.{Said}
 use Rattle.ph_book.specs.Runs.{own_run}
 use Rattle.ph_book.specs.State.{BookState}
@@ -87,6 +88,9 @@ pub record Entered (old new : Known) (act : Act) (given : Answer) (mark : Kept) 
   pub front : new.front ≡ before ++ filed old.caller act mark ∷ []
   pub mine : new.mine ≡ old.mine ++ (length before + 1, filed old.caller act mark) ∷ []
   pub answered : Answers old.setup (entries_in before) (entry_of old.caller act) given
+  -- what the entry does to the live runs of its caller, of which none had the number of its place
+  pub runs : RunsAfter old.setup (entries_in before) (entry_of old.caller act)
+  pub fresh : live_in (known_at old before) (length (entries_in before) + 1) ≡ None
 
 -- ---- what is known of a book that no one else has, and by a pass
 
@@ -127,10 +131,10 @@ module _ {E Base : Type 0} (setup : Base → Setup) (plain : E → Entry) (mark 
 
 module _ {E Base : Type 0} where
   -- a pass of this lock, whose caller may enter acts
-  pub record IsFit (by : E → ℕ) (lawful : Base → List E → Type 0) (lock : TableId) (pass : Shown E Base) : Type 0 where
-    pub lock : pass.lock ≡ lock
+  pub record IsFit (by : E → ℕ) (lawful : Base → List E → Type 0) (table : TableId) (pass : Shown E Base) : Type 0 where
+    pub lock : pass.lock ≡ table
     pub small : pass.caller < 2 ^ 62
-    pub pass : IsPass by lawful pass
+    pub is_pass : IsPass by lawful pass
 
   -- the same pass, which may have seen more
   pub record Grown (old new : Shown E Base) : Type 0 where

@@ -1,4 +1,5 @@
 pub mod Fronts
+pub mod Grows
 pub mod Parts
 pub mod Means
 pub mod Answers
@@ -7,4 +8,5 @@ pub mod Served
 pub mod Sends
 pub mod Steps
 pub mod Session
+pub mod Laws
 pub mod Texts

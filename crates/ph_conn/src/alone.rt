@@ -1,5 +1,5 @@
 //! A book that no one else has.
-ghost use Rattle.std.specs.Prelude.{◌≡◌, ◌^◌, ◌<◌, IfErr, IfOk, IsOk, IsTrue, Unit};
+ghost use Rattle.std.specs.Prelude.{◌≡◌, ◌^◌, ◌<◌, IfErr, IfOk, IsOk, IsTrue, ⊤};
 ghost use Rattle.ph_lock.specs.declared.object.Refused.{Refused};
 ghost use Rattle.ph_book.specs.Entries.{IsGranted, deed_of};
 ghost use Rattle.ph_book.specs.Legal.{is_full};
@@ -18,9 +18,9 @@ impl Desk for Alone {
 
     ghost known = { known_alone };
 
-    ghost fits = { λ _ _. Unit };
+    ghost fits = { λ _ book. (known_alone book).caller < 2 ^ 62 };
 
-    ghost becomes = { λ _ _. Unit };
+    ghost becomes = { λ _ _. ⊤ };
 
     fn enter(&self, held: &mut Book, act: Act) -> Result<(Answer, Kept), (Act, Refused)>
         requires allowed { MayDo (known_alone held.old) act }
@@ -37,7 +37,7 @@ impl Desk for Alone {
         }
     }
 
-    ghost small = { λ _ _ _. tt };
+    ghost small = { λ _ _ fit. fit };
 
     ghost stays = { λ _. tt };
 

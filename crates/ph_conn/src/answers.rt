@@ -61,18 +61,20 @@ pub fn answer<D: Desk, A: Acquirer, P: Patience>(
 {
     match call(desk, held, raw) {
         Called::Replied(reply, kept) => comes(reply, kept),
-        Called::Waiting(ticket, Kept::Yes) => {
-            let driven = drive(&ticket, link, patience);
-            settle(desk, held, ticket, driven)
-        }
-        Called::Waiting(ticket, Kept::Failed) => {
-            let _ = park(desk, held, ticket, Why::Failed);
-            Outcome::Unkept(TalkError::KeepFault)
-        }
-        Called::Waiting(ticket, Kept::NoMemory) => {
-            let _ = park(desk, held, ticket, Why::NoMemory);
-            Outcome::Unkept(TalkError::NoMemory)
-        }
+        Called::Waiting(ticket, kept) => match kept {
+            Kept::Yes => {
+                let driven = drive(&ticket, link, patience);
+                settle(desk, held, ticket, driven)
+            }
+            Kept::Failed => {
+                let _ = park(desk, held, ticket, Why::Failed);
+                Outcome::Unkept(TalkError::KeepFault)
+            }
+            Kept::NoMemory => {
+                let _ = park(desk, held, ticket, Why::NoMemory);
+                Outcome::Unkept(TalkError::NoMemory)
+            }
+        },
         Called::Full => Outcome::Full,
         Called::NoMemory => Outcome::NoMemory,
     }
@@ -86,9 +88,11 @@ fn call<D: Desk>(desk: &D, held: &mut D::Held, raw: Raw) -> Called
     ensures calls { Calls (D.known held.old) (D.known held.new) raw result }
 {
     match desk.enter(held, Act::Call(raw)) {
-        Ok((Answer::Reply(reply), kept)) => Called::Replied(reply, kept),
-        Ok((Answer::Wait(ticket), kept)) => Called::Waiting(ticket, kept),
-        Ok((Answer::Done, _)) => unreachable!(),
+        Ok((answer, kept)) => match answer {
+            Answer::Reply(reply) => Called::Replied(reply, kept),
+            Answer::Wait(ticket) => Called::Waiting(ticket, kept),
+            Answer::Done => unreachable!(),
+        },
         Err((act, why)) => {
             let Act::Call(_) = act else { unreachable!() };
             match why {
@@ -121,10 +125,14 @@ fn settle<D: Desk>(desk: &D, held: &mut D::Held, ticket: Ticket, driven: Driven)
     match driven {
         Driven::Ready(ruling) => match finish(desk, held, ticket, ruling) {
             Ok((reply, kept)) => comes(reply, kept),
-            Err(ticket) => match park(desk, held, ticket, Why::NoMemory) {
-                (_, Kept::Yes) => Outcome::Parked,
-                (_, Kept::Failed | Kept::NoMemory) => Outcome::Unkept(TalkError::NoMemory),
-            },
+            Err(ticket) => {
+                let (_, kept) = park(desk, held, ticket, Why::NoMemory);
+                match kept {
+                    Kept::Yes => Outcome::Parked,
+                    Kept::Failed => Outcome::Unkept(TalkError::NoMemory),
+                    Kept::NoMemory => Outcome::Unkept(TalkError::NoMemory),
+                }
+            }
         },
         Driven::Failed => {
             let (reply, kept) = park(desk, held, ticket, Why::Failed);

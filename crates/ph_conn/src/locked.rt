@@ -4,6 +4,7 @@ ghost use Rattle.ph_lock.specs.declared.object.Refused.{Refused};
 ghost use Rattle.ph_book.specs.Entries.{IsGranted, deed_of};
 ghost use Rattle.ph_book.specs.Legal.{is_full};
 ghost use Rattle.ph_conn.specs.Fronts.{Entered, Grown, IsFit, MayDo, OnlySaw, entries_in, known_by};
+ghost use Rattle.ph_conn.specs.Grows.{grown_further, grown_stays};
 
 use crate::desks::Desk;
 use ph_book::{Act, Answer, Hosted, Kept};

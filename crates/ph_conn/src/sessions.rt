@@ -1,11 +1,15 @@
 //! A session over a book that no one else has, and one over a lock.
-ghost use Rattle.std.specs.Prelude.{◌≡◌, ℕ};
+ghost use Rattle.std.specs.Prelude.{◌≡◌, ℕ, map};
 ghost use Rattle.ph_io.specs.Told.{SourceState};
 ghost use Rattle.ph_lock.specs.Histories.{StartsWith};
 ghost use Rattle.ph_lock.specs.Passes.{IsPass, SamePass};
+ghost use Rattle.ph_book.specs.History.{doings_of};
 ghost use Rattle.ph_book.specs.Legal.{IsLegal};
-ghost use Rattle.ph_conn.specs.Fronts.{entries_in, known_alone, known_by};
-ghost use Rattle.ph_conn.specs.Means.{Means};
+ghost use Rattle.ph_book.specs.State.{BookState};
+ghost use Rattle.ph_bank.specs.Links.{Link};
+ghost use Rattle.ph_bank.specs.Patiences.{Granted};
+ghost use Rattle.ph_conn.specs.Fronts.{known_alone, known_by};
+ghost use Rattle.ph_conn.specs.Laws.{AuthorisedOnce, HoldLaws};
 ghost use Rattle.ph_conn.specs.Session.{Session, SoloSession};
 
 use crate::alone::Alone;
@@ -63,14 +67,18 @@ pub fn serve_solo<S: Source, K: Sink, A: Acquirer, P: Patience>(
 
 /// What a session does for whose book there is no memory: it reads nothing, and 503 `no_memory` is written.
 pub fn serve_none<K: Sink>(output: &mut K) -> TalkError
-    ensures { (limit : ℕ) (means : Means) (input : SourceState) → IsLegal means.known.setup (entries_in means.known.front)
-        → SoloSession (Err result) limit means means input input (K.sink output.old) (K.sink output.new) }
+    ensures { (limit : ℕ) (book : BookState) (link : Link) (counts : Granted) (input : SourceState) → IsLegal book.setup book.history
+        → SoloSession (Err result) limit (record { known = known_alone book; link = link; counts = counts })
+        (record { known = known_alone book; link = link; counts = counts }) input input (K.sink output.old) (K.sink output.new) }
 {
     part(output, Fixed::NoMemory, TalkError::NoMemory)
 }
 
 /// Answers the requests of a connection as [`serve_solo`] does those of an input, but over the object of a lock, as the
 /// caller of a pass of it, so that other callers act between its acts. It may wait at each act.
+///
+/// The history that it leaves known is legal, so the laws of attempts hold of it: where all callers' links lead to one
+/// acquirer that answers a repeated reference as at first, no confirmation is authorised twice.
 ///
 /// Where an entry isn't kept by the store behind the object, it is the session's last but for the park of its run, which
 /// is never driven: no reply is written to the request, and the session breaks off with `KeepFault`, or for want of memory.
@@ -93,6 +101,8 @@ pub fn serve_shared<R: Wait, O: Hosted, C: Duplex, A: Acquirer, P: Patience>(
         (record { known = known_by O.setup O.plain O.mark pass.old; link = A.link link.old; counts = P.counts patience.old })
         (record { known = known_by O.setup O.plain O.mark pass.new; link = A.link link.new; counts = P.counts patience.new })
         (C.source conn.old) (C.source conn.new) (C.sink conn.old) (C.sink conn.new) }
+    ensures laws { HoldLaws (doings_of (O.setup pass.new.base) (map O.plain pass.new.front)) }
+    ensures authorised_once { AuthorisedOnce (doings_of (O.setup pass.new.base) (map O.plain pass.new.front)) (A.link link.new) }
 {
     let _ = pass.caller();
     let desk = Locked { rt, lock };
