@@ -2,7 +2,7 @@
 ghost use Rattle.std.specs.Prelude.{◌≡◌};
 ghost use Rattle.ph_drill.specs.Lines.{Writes, balance_line, count_line, word_and};
 
-use itoa::Buffer;
+use itoa::{Buffer, Integer};
 use ph_io::{Sink, WriteFailed, write_all};
 
 /// Writes a line of a word and a number.
@@ -10,8 +10,7 @@ pub fn write_count<K: Sink>(sink: &mut K, word: &[u8], number: u64) -> Result<()
     ensures { Writes (K.sink sink.old) (K.sink sink.new) (count_line word.now number) result }
 {
     write_word(sink, word, b" ")?;
-    let mut digits = Buffer::new();
-    write_word(sink, digits.format(number).as_bytes(), b"\n")
+    write_number(sink, number, b"\n")
 }
 
 /// Writes the line of a balance: of which account, in which currency, and what is available and pending.
@@ -27,9 +26,20 @@ pub fn write_balance<K: Sink>(
     write_word(sink, b"balance", b" ")?;
     write_word(sink, account, b" ")?;
     write_word(sink, code, b" ")?;
+    write_number(sink, available, b" ")?;
+    write_number(sink, pending, b"\n")
+}
+
+// Writes a number in decimal and what comes behind it.
+fn write_number<K: Sink, I: Integer>(
+    sink: &mut K,
+    number: I,
+    behind: &[u8],
+) -> Result<(), WriteFailed>
+    ensures { Writes (K.sink sink.old) (K.sink sink.new) (word_and behind.now (I.text number)) result }
+{
     let mut digits = Buffer::new();
-    write_word(sink, digits.format(available).as_bytes(), b" ")?;
-    write_word(sink, digits.format(pending).as_bytes(), b"\n")
+    write_word(sink, digits.format(number).as_bytes(), behind)
 }
 
 // Writes a word and what comes behind it.

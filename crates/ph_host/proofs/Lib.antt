@@ -1,2 +1,3 @@
+pub mod PairLemmas
 mod SetupLemmas
 pub mod VisitLemmas

@@ -76,7 +76,7 @@ pub fn run_host<
     // book that comes back is that one, and its history begins with what each pass showed last.
     ensures workers { IfSome result.1 (λ book. (book.setup ≡ setup_of words.now)
         × Pairs (λ old new. (new.pass ≡ None) × IsSomeAnd new.last (λ shown. StartsWith book.history shown.front
-            × WorksBy (setup_of words.now) shown new.end (A.link old.link) (A.link new.link) (P.counts old.patience) (P.counts new.patience) (G.gate old.gate) (G.gate new.gate))) workers.old workers.new) }
+        × WorksBy (setup_of words.now) shown new.end (A.link old.link) (A.link new.link) (P.counts old.patience) (P.counts new.patience) (G.gate old.gate) (G.gate new.gate))) workers.old workers.new) }
 
     // The summary of its history was written, and the status is that of the workers' ends; or a write of it failed.
     ensures summary { IfSome result.1 (λ book. Tells (map (λ worker. worker.end) workers.new) result.0 (summary_of book.setup book.history) (K.sink output.old) (K.sink output.new)) }
@@ -112,7 +112,7 @@ fn host<
     ensures none { IfNone result.1 ((result.0 ≡ 6) × (workers.new ≡ workers.old) × (K.sink output.new ≡ K.sink output.old)) }
     ensures workers { IfSome result.1 (λ closed. (closed.setup ≡ book.setup)
         × Pairs (λ old new. (new.pass ≡ None) × IsSomeAnd new.last (λ shown. StartsWith closed.history shown.front
-            × WorksBy book.setup shown new.end (A.link old.link) (A.link new.link) (P.counts old.patience) (P.counts new.patience) (G.gate old.gate) (G.gate new.gate))) workers.old workers.new) }
+        × WorksBy book.setup shown new.end (A.link old.link) (A.link new.link) (P.counts old.patience) (P.counts new.patience) (G.gate old.gate) (G.gate new.gate))) workers.old workers.new) }
     ensures summary { IfSome result.1 (λ closed. Tells (map (λ worker. worker.end) workers.new) result.0 (summary_of closed.setup closed.history) (K.sink output.old) (K.sink output.new)) }
 {
     let (lock, mut first) = match Lock::new(alloc, book) {
@@ -176,12 +176,8 @@ fn serve_all<
     G: Gate<Conn: Send> + Send,
     A: Acquirer + Send,
     P: Patience + Send,
->(
-    rt: &R,
-    alloc: Global,
-    lock: &Lock<O>,
-    workers: &mut [Worker<G, A, P, O>],
-) where
+>(rt: &R, alloc: Global, lock: &Lock<O>, workers: &mut [Worker<G, A, P, O>])
+where
     O::Answer: Send,
     O::Entry: Send,
     O::Deed: Send,
@@ -190,15 +186,18 @@ fn serve_all<
     ensures served { Pairs (λ old new. (new.last ≡ old.last) × IfSome old.pass (λ before. IsSomeAnd new.pass (λ after.
         SamePass before after × IsPass O.by O.lawful after
         × Served connection_limit new.end
-            (record { known = known_by O.setup O.plain O.mark before; link = A.link old.link; counts = P.counts old.patience })
-            (record { known = known_by O.setup O.plain O.mark after; link = A.link new.link; counts = P.counts new.patience })
-            (G.gate old.gate) (G.gate new.gate)))) workers.old workers.new }
+        (record { known = known_by O.setup O.plain O.mark before; link = A.link old.link; counts = P.counts old.patience })
+        (record { known = known_by O.setup O.plain O.mark after; link = A.link new.link; counts = P.counts new.patience })
+        (G.gate old.gate) (G.gate new.gate)))) workers.old workers.new }
 {
     let threads = workers.len();
     if threads > 0 {
-        for_each_mut(rt, workers, threads, &|_, worker| {
-            serve(rt, alloc, lock, worker)
-        });
+        for_each_mut(
+            rt,
+            workers,
+            threads,
+            &|_, worker| { serve(rt, alloc, lock, worker) },
+        );
     }
 }
 
@@ -214,9 +213,9 @@ fn serve<R: Wait, O: Hosted, G: Gate, A: Acquirer, P: Patience>(
     ensures served { IfSome worker.old.pass (λ before. IsSomeAnd worker.new.pass (λ after.
         SamePass before after × IsPass O.by O.lawful after
         × Served connection_limit worker.new.end
-            (record { known = known_by O.setup O.plain O.mark before; link = A.link worker.old.link; counts = P.counts worker.old.patience })
-            (record { known = known_by O.setup O.plain O.mark after; link = A.link worker.new.link; counts = P.counts worker.new.patience })
-            (G.gate worker.old.gate) (G.gate worker.new.gate))) }
+        (record { known = known_by O.setup O.plain O.mark before; link = A.link worker.old.link; counts = P.counts worker.old.patience })
+        (record { known = known_by O.setup O.plain O.mark after; link = A.link worker.new.link; counts = P.counts worker.new.patience })
+        (G.gate worker.old.gate) (G.gate worker.new.gate))) }
 {
     let Some(pass) = &mut worker.pass else {
         unreachable!()
@@ -257,11 +256,7 @@ fn join_each<G, A, P>(
 }
 
 // Takes a worker's pass back into the first one.
-fn join_one<G, A, P>(
-    lock: &Lock<Book>,
-    first: &mut Pass<Book>,
-    worker: &mut Worker<G, A, P, Book>,
-)
+fn join_one<G, A, P>(lock: &Lock<Book>, first: &mut Pass<Book>, worker: &mut Worker<G, A, P, Book>)
     requires lock { first.old.lock ≡ lock.now }
     requires pass { IsSomeAnd worker.old.pass (λ pass. pass.lock ≡ lock.now) }
     ensures same { SamePass first.old first.new }
