@@ -1,5 +1,5 @@
 -- A request that is entered, with its run and its reply.
-use Rattle.std.proofs.Common.{◌≡◌, ◌≢◌, ℕ, ◌+◌, ◌^◌, ◌<◌, ◌≤◌, ◌==◌, ◌||◌, Bool, true, false, ◌++◌, ◌∷◌, ◌∙◌, List, [], length, map, Option, Some, None, Result, Ok, Err, IsTrue, refl, sym, ap, subst, append_assoc, arith}
+use Rattle.std.proofs.Common.{◌≡◌, ℕ, ◌+◌, ◌^◌, ◌<◌, ◌≤◌, Bool, true, false, ◌++◌, ◌∷◌, ◌∙◌, List, [], length, Option, Some, None, refl, sym, ap, subst, append_assoc, arith}
 use Rattle.std.proofs.lemmas.List.{append-nil, length-map, map-append}
 use Rattle.ph_base.specs.Counts.{Rose}
 use Rattle.ph_base.specs.declared.acquirer.Ruling.{Ruling}
@@ -11,14 +11,12 @@ use Rattle.ph_items.specs.declared.orders.Order.{Order}
 use Rattle.ph_lock.specs.Histories.{StartsWith}
 use Rattle.ph_http.specs.declared.message.Raw.{Raw}
 use Rattle.ph_http.specs.declared.message.Reply.{Reply}
-use Rattle.ph_http.specs.Replies.{is_status}
 use Rattle.ph_bank.specs.declared.driving.Driven.{Driven}
 use Rattle.ph_bank.specs.declared.driving.Driven.TheVariants as driven
-use Rattle.ph_bank.specs.Drives.{Drives, EndsDecided, EndsWith, waits}
+use Rattle.ph_bank.specs.Drives.{Drives}
 use Rattle.ph_bank.specs.Links.{KeepsDecisions, Link, and_asks}
 use Rattle.ph_bank.specs.Patiences.{Granted, next_count}
 use Rattle.ph_bank.proofs.DriveLemmas.{keeps-same}
-use Rattle.ph_book.specs.declared.acts.Act.{Act}
 use Rattle.ph_book.specs.declared.acts.Act.TheVariants as act
 use Rattle.ph_book.specs.declared.acts.Answer.{Answer}
 use Rattle.ph_book.specs.declared.acts.Answer.TheVariants as answer
@@ -26,14 +24,14 @@ use Rattle.ph_book.specs.declared.acts.Entry.{Entry}
 use Rattle.ph_book.specs.declared.hosted.Kept.{Kept}
 use Rattle.ph_book.specs.declared.hosted.Kept.TheVariants as kept
 use Rattle.ph_book.specs.declared.setup.Setup.{Setup}
-use Rattle.ph_book.specs.Answers.{IsRuled, Says, is_ruled}
+use Rattle.ph_book.specs.Answers.{Says}
 use Rattle.ph_book.specs.Entries.{call_entry, entry_of}
 use Rattle.ph_book.specs.Tickets.{Holds}
 use Rattle.ph_book.specs.Replies.{Said, Replies, Waits, Silence, park_reply}
-use Rattle.ph_conn.specs.Answers.{Answers, BreaksFor, Comes, Ended, Idles, Settles, Took, end_act}
-use Rattle.ph_conn.specs.Fronts.{Filed, Known, IsSame, KeepsLive, OnlySaw, Entered, entries_in, filed, live_in, said_behind, MayDo}
+use Rattle.ph_conn.specs.Answers.{Answers, BreaksFor, Comes, Ended, Settles, Took, end_act}
+use Rattle.ph_conn.specs.Fronts.{Filed, Known, OnlySaw, Entered, entries_in, filed, said_behind, MayDo}
 use Rattle.ph_conn.specs.Means.{Means, Counted, RoseBy}
-use Rattle.ph_conn.specs.Parts.{Ending, Settled, GivenUp, Drive, Run, Part, EndsBy, EndsAs, Follows, IsRun, IsReplyOf, IsReplyTo, Stands, behind, call_filed, called, end_entry, end_filed, entries_of, place_behind, asks_by, DriveDecided, failures, failures_in, refusals, refusals_in, grants, drives, if_driven, is_out, is_out_in, first_mark, mark_of, IsWell}
+use Rattle.ph_conn.specs.Parts.{Ending, Settled, GivenUp, Drive, Run, Part, EndsBy, EndsAs, Follows, IsReplyOf, behind, call_filed, end_entry, place_behind, asks_by, DriveDecided, failures, failures_in, refusals, refusals_in, grants, drives, if_driven, is_out, is_out_in, first_mark, mark_of}
 use Rattle.ph_conn.specs.Sends.{IsWritable}
 use Rattle.ph_conn.specs.declared.answers.Outcome.{Outcome}
 use Rattle.ph_conn.specs.declared.answers.Outcome.TheVariants as outcome
@@ -216,7 +214,7 @@ pub took_run : {old middle new : Known} {raw : Raw} {mark end : Kept} {reply : R
     → Ran (record { known = old; link = link0; counts = counts0 }) (record { known = new; link = link1; counts = counts1 }) raw reply (first_mark mark end) (is_out_in ending)
 took_run {old} {middle} {new} {raw} {mark} {end} {reply} {link0} {link1} {counts0} {counts1} {drive} ticket ending e drove f ends =
     subst (λ (k : Known). Entered old k (act.Call raw) (answer.Wait ticket) mark → Ended k new ticket ending reply end
-        → Ran (record { known = old; link = link0; counts = counts0 }) (record { known = new; link = link1; counts = counts1 }) raw reply (first_mark mark end) (is_out_in ending))
+    → Ran (record { known = old; link = link0; counts = counts0 }) (record { known = new; link = link1; counts = counts1 }) raw reply (first_mark mark end) (is_out_in ending))
     (sym (as_before old middle e.same.setup e.same.caller)) (λ e' f'. ran ticket ending e' drove f' ends) e f
 
 -- ---- answers
@@ -237,21 +235,19 @@ pub is_replied : {old new : Known} {raw : Raw} {reply : Reply} {mark : Kept} (li
     → Answers (record { known = old; link = link; counts = counts }) (record { known = new; link = link; counts = counts }) raw what
 is_replied {old} {new} {raw} {reply} {mark} link counts (outcome.Reply given) e comes =
     let well = comes-well mark reply given comes in
-    let t = took_reply link counts e in
-    (
+    let t = took_reply link counts e in (
       record { raw = raw; before = e.before; kept = mark; run = None },
       refl,
       subst (Took (record { known = old; link = link; counts = counts }) (record { known = new; link = link; counts = counts }) (record { raw = raw; before = e.before; kept = mark; run = None })) well.1 t,
       record { marked = ap (λ m. first_mark m kept.Yes) well.0; had_memory = refl },
     )
-is_replied {old} {new} {raw} {reply} {mark} link counts (outcome.Unkept why) e comes =
-    (
-      record { raw = raw; before = e.before; kept = mark; run = None },
-      reply,
-      refl,
-      took_reply link counts e,
-      subst (λ m. BreaksFor false m why) (sym (first-alone mark)) (comes-unkept mark reply why comes),
-    )
+is_replied {old} {new} {raw} {reply} {mark} link counts (outcome.Unkept why) e comes = (
+  record { raw = raw; before = e.before; kept = mark; run = None },
+  reply,
+  refl,
+  took_reply link counts e,
+  subst (λ m. BreaksFor false m why) (sym (first-alone mark)) (comes-unkept mark reply why comes),
+)
   where
     first-alone : (m : Kept) → first_mark m kept.Yes ≡ m
     first-alone kept.Yes = refl

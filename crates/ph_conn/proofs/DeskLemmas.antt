@@ -1,14 +1,12 @@
 -- What acts leave of what is known: of a book alone, and by a pass of a lock.
-use Rattle.std.proofs.Common.{◌≡◌, ◌≢◌, ℕ, zero, suc, ◌+◌, ◌^◌, ◌<◌, ◌≤◌, ◌∷◌, ◌++◌, ◌↔◌, List, [], length, map, Option, Some, None, IsTrue, refl, sym, ap, ◌∙◌, subst, append_assoc, arith}
-use Rattle.std.proofs.lemmas.List.{append-nil, append_cancel_right, length-map, map-append}
-use Rattle.ph_attempts.specs.declared.flights.Flight.{Flight}
+use Rattle.std.proofs.Common.{◌≡◌, ℕ, ◌+◌, ◌^◌, ◌<◌, ◌∷◌, ◌++◌, List, [], length, map, IsTrue, refl, sym, ap, ◌∙◌, subst, arith}
+use Rattle.std.proofs.lemmas.List.{append_cancel_right, length-map, map-append}
 use Rattle.ph_lock.specs.Histories.{StartsWith, NoneOf, own_entries}
 use Rattle.ph_lock.specs.Passes.{Shown, IsPass, SamePass}
 use Rattle.ph_lock.specs.Passes as passes
 use Rattle.ph_lock.proofs.Owns as owns
 use Rattle.ph_book.specs.declared.acts.Act.{Act}
 use Rattle.ph_book.specs.declared.acts.Answer.{Answer}
-use Rattle.ph_book.specs.declared.acts.Deed.{Deed}
 use Rattle.ph_book.specs.declared.acts.Entry.{Entry}
 use Rattle.ph_book.specs.declared.hosted.Kept.{Kept}
 use Rattle.ph_book.specs.declared.hosted.Kept.TheVariants as kept
@@ -16,27 +14,18 @@ use Rattle.ph_book.specs.declared.setup.Setup.{Setup}
 use Rattle.ph_book.specs.Callers.{caller_of}
 use Rattle.ph_book.specs.Entries.{deed_of, entry_of}
 use Rattle.ph_book.specs.Answers.{HasStatus, IsAnswerTo, Says}
-use Rattle.ph_book.specs.History.{Happening, and_then, said_to}
+use Rattle.ph_book.specs.History.{said_to}
 use Rattle.ph_book.specs.Hosts.{Allows, Answers}
-use Rattle.ph_book.specs.Legal.{AreAllowed, IsLegal, is_full}
+use Rattle.ph_book.specs.Legal.{IsLegal, is_full}
 use Rattle.ph_book.specs.OwnRuns.{RunsAfter, own_of}
 use Rattle.ph_book.specs.State.{BookState, entered}
 use Rattle.ph_book.specs.Tickets.{HandsOut}
 use Rattle.ph_book.specs.Stays.{own_stays}
+use Rattle.ph_book.proofs.GrowthLemmas.{legal_front}
 use Rattle.ph_book.proofs.OwnRunLemmas.{runs_after}
-use Rattle.ph_conn.specs.Fronts.{Filed, Known, IsSame, KeepsLive, OnlySaw, Entered, entries_in, filed, filed_as, kept_entry, known_alone, known_by, known_at, live_in, MayDo, placed_as, placed_from}
+use Rattle.ph_conn.specs.Fronts.{Filed, OnlySaw, Entered, entries_in, filed, filed_as, kept_entry, known_alone, known_by, live_in, MayDo, placed_as, placed_from}
 use Rattle.ph_conn.proofs.FrontLemmas.{starts-itself}
 use Rattle.ph_conn.proofs.PlaceLemmas.{fresh-place}
-
--- ---- histories that are legal
-
-allowed-front : (setup : Setup) (past : List Happening) (front more : List Entry) → AreAllowed setup past (front ++ more) → AreAllowed setup past front
-allowed-front setup past [] more allowed = tt
-allowed-front setup past (entry ∷ entries) more allowed = (allowed.0, allowed-front setup (and_then setup past entry) entries more allowed.1)
-
--- a front of a legal history is legal
-legal-front : (setup : Setup) (front more : List Entry) → IsLegal setup (front ++ more) → IsLegal setup front
-legal-front setup front more legal = record { opened = legal.opened; allowed = allowed-front setup [] front more legal.allowed }
 
 -- ---- a book alone
 
@@ -191,7 +180,7 @@ module _ {E Base : Type 0} (setup : Base → Setup) (plain : E → Entry) (mark 
         let long : length e.before ≡ length before = sym (length-map e.before as_filed) in
         let legal : IsLegal (setup old.base) (map plain e.before ++ plain e.entry ∷ []) =
         subst (IsLegal (setup old.base)) (ap (map plain) e.front ∙ map-append plain e.before (e.entry ∷ [])) (subst (λ (b : Base). IsLegal (setup b) (map plain new.front)) same.base (legality new.base new.front is.legal)) in
-        let was_legal = legal-front (setup old.base) (map plain e.before) (plain e.entry ∷ []) legal in
+        let was_legal = legal_front (setup old.base) (map plain e.before) (plain e.entry ∷ []) legal in
         let own_front : own_entries by old.caller 1 new.front ≡ new.mine = ap (λ (c : ℕ). own_entries by c 1 new.front) (sym same.caller) ∙ is.own in
         let own_before : own_entries by old.caller 1 e.before ≡ old.mine =
         append_cancel_right (own_entries by old.caller 1 e.before) old.mine ((length e.before + 1, e.entry) ∷ [])

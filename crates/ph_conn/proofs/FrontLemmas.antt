@@ -1,12 +1,12 @@
 -- Histories that begin with others, and what is known of them.
-use Rattle.std.proofs.Common.{◌≡◌, ℕ, ◌+◌, ◌∷◌, ◌++◌, List, [], length, map, refl, sym, ap, ◌∙◌, subst, append_assoc}
+use Rattle.std.proofs.Common.{◌≡◌, ℕ, ◌+◌, ◌∷◌, ◌++◌, List, [], length, refl, sym, ap, ◌∙◌, subst, append_assoc}
 use Rattle.std.proofs.lemmas.List.{append-nil}
 use Rattle.ph_lock.specs.Histories.{StartsWith}
 use Rattle.ph_book.specs.declared.acts.Act.{Act}
 use Rattle.ph_book.specs.declared.acts.Answer.{Answer}
 use Rattle.ph_book.specs.declared.hosted.Kept.{Kept}
 use Rattle.ph_book.specs.declared.setup.Setup.{Setup}
-use Rattle.ph_conn.specs.Fronts.{Filed, Known, IsSame, KeepsLive, OnlySaw, Entered, filed}
+use Rattle.ph_conn.specs.Fronts.{Filed, Known, KeepsLive, OnlySaw, Entered, filed}
 
 pub starts-itself : {E : Type 0} (xs : List E) → StartsWith xs xs
 starts-itself xs = ([], sym (append-nil xs))

@@ -1,16 +1,15 @@
 -- A session over a history all of whose entries are kept.
-use Rattle.std.proofs.Common.{◌≡◌, ℕ, ◌∷◌, ◌++◌, List, [], map, Option, Some, None, Result, refl, sym, ap, ◌∙◌, subst}
+use Rattle.std.proofs.Common.{◌≡◌, ℕ, ◌∷◌, ◌++◌, List, [], map, Option, Some, None, Result, refl, ap, ◌∙◌, subst}
 use Rattle.ph_io.specs.Told.{SourceState, SinkState}
 use Rattle.ph_lock.specs.Histories.{StartsWith}
 use Rattle.ph_bank.specs.Links.{Link}
 use Rattle.ph_bank.specs.Patiences.{Granted}
 use Rattle.ph_book.specs.declared.acts.Entry.{Entry}
-use Rattle.ph_book.specs.declared.hosted.Kept.{Kept}
 use Rattle.ph_book.specs.declared.hosted.Kept.TheVariants as kept
 use Rattle.ph_book.specs.State.{BookState}
 use Rattle.ph_conn.specs.Fronts.{Filed, kept_entry, known_alone}
 use Rattle.ph_conn.specs.Means.{Means}
-use Rattle.ph_conn.specs.Parts.{Run, Part, AllKept, AllStand, EndFollows, Stands, behind, called, end_filed, end_mark, ended, first_mark, mark_of, place_behind}
+use Rattle.ph_conn.specs.Parts.{Run, Part, AllKept, AllStand, EndFollows, behind, called, end_filed, end_mark, ended, first_mark, place_behind}
 use Rattle.ph_conn.specs.Session.{Session, SoloSession}
 use Rattle.ph_conn.specs.declared.endings.Closed.{Closed}
 use Rattle.ph_conn.specs.declared.endings.TalkError.{TalkError}

@@ -1,13 +1,12 @@
 -- The laws of the history that a session leaves.
-use Rattle.std.proofs.Common.{◌≡◌, ℕ, ◌^◌, ◌<◌, ◌==◌, ◌&&◌, ◌||◌, Bool, true, false, List, [], ◌∷◌, Option, Some, None, refl, sym, ap, ◌∙◌, subst}
+use Rattle.std.proofs.Common.{◌≡◌, ℕ, ◌^◌, ◌<◌, ◌==◌, ◌&&◌, ◌||◌, Bool, true, false, List, [], ◌∷◌, Option, Some, refl, sym, ap, ◌∙◌}
 use Rattle.std.specs.List.{list_all, list_any}
 use Rattle.std.proofs.lemmas.Bool.{eqb-true}
 use Rattle.ph_base.specs.declared.acquirer.Ruling.{Ruling}
 use Rattle.ph_base.specs.declared.acquirer.Ruling.TheVariants as ruling
-use Rattle.ph_items.specs.declared.orders.Order.{Order}
 use Rattle.ph_doings.specs.Confirmations.{all_but_first, attempts_of_confirmation}
 use Rattle.ph_doings.specs.Doings.{Doing}
-use Rattle.ph_doings.specs.Standings.{State, Live, Parked, Settled, Standing, NotBegun, Stands, is_challenged, standing_of}
+use Rattle.ph_doings.specs.Standings.{Live, Parked, Settled, Standing, NotBegun, Stands, is_challenged, standing_of}
 use Rattle.ph_doings.proofs.LawProofs.{all_but_the_last_were_challenged, processing_has_one_attempt, references_differ}
 use Rattle.ph_bank.specs.Links.{Link}
 use Rattle.ph_book.specs.declared.setup.Setup.{Setup}
@@ -40,14 +39,14 @@ and_right false b e = absurd (cc)
 -- a test that all of a list pass, one of it passes
 all-at : (test : ℕ → Bool) (x : ℕ) (xs : List ℕ) → list_all test xs ≡ true → list_any (λ other. other == x) xs ≡ true → test x ≡ true
 all-at test x [] all any = absurd (cc)
-all-at test x (y ∷ xs) all any = at (y == x) refl any
+all-at test x (y ∷ xs) all any = at (y == x) refl any (all-at test x xs (and_right (test y) (list_all test xs) all))
   where
-    at : (b : Bool) → (y == x) ≡ b → (b || list_any (λ other. other == x) xs) ≡ true → test x ≡ true
-    at true same any = ap test (sym (eqb-true y x same)) ∙ and_left (test y) (list_all test xs) all
-    at false apart any = all-at test x xs (and_right (test y) (list_all test xs) all) any
+    at : (b : Bool) → (y == x) ≡ b → (b || list_any (λ other. other == x) xs) ≡ true → (list_any (λ other. other == x) xs ≡ true → test x ≡ true) → test x ≡ true
+    at true same any behind = ap test (sym (eqb-true y x same)) ∙ and_left (test y) (list_all test xs) all
+    at false apart any behind = behind any
 
 -- the first of a list, which is its only member that isn't among all but the first
-first_of : List ℕ → ℕ
+abbrev first_of : List ℕ → ℕ
 first_of [] = 0
 first_of (x ∷ xs) = x
 

@@ -1,5 +1,5 @@
 -- Parts of a session, one more behind others.
-use Rattle.std.proofs.Common.{◌≡◌, ◌≢◌, ℕ, zero, suc, ◌+◌, ◌∷◌, ◌++◌, true, false, List, [], length, Option, Some, None, refl, sym, ap, ◌∙◌, subst, append_assoc, arith}
+use Rattle.std.proofs.Common.{◌≡◌, ◌≢◌, ℕ, zero, suc, ◌+◌, ◌∷◌, ◌++◌, true, List, [], Option, Some, None, refl, sym, ap, ◌∙◌, append_assoc, arith}
 use Rattle.std.proofs.lemmas.List.{append-nil, map-append}
 use Rattle.std.proofs.lemmas.Grind.{flat_map-append}
 use Rattle.ph_base.specs.Counts.{Rose}
@@ -24,7 +24,7 @@ use Rattle.ph_book.specs.Entries.{call_entry}
 use Rattle.ph_book.specs.Replies.{Said, Replies, Waits, Silence, park_reply}
 use Rattle.ph_conn.specs.Fronts.{Filed, Known, said_behind}
 use Rattle.ph_conn.specs.Means.{Means, Counted, RoseBy}
-use Rattle.ph_conn.specs.Parts.{Ending, Settled, GivenUp, Drive, Run, Part, requests_of, entries_of, mine_of, Stands, AllStand, behind, called, ended, place_behind, PartFollows, Follows, EndsAs, AllFollow, IsReplyOf, IsReplyBy, IsReplyTo, AreReplies, AreNoParks, asks_in, asks_of, DriveDecided, RunDecided, AllDecided, failures_in, refusals_in, in_run, if_driven, over_runs, failures, refusals, grants, drives, first_mark, end_mark, mark_of, IsWell, AllWell, AllKept}
+use Rattle.ph_conn.specs.Parts.{Ending, Settled, GivenUp, Drive, Run, Part, requests_of, entries_of, mine_of, Stands, AllStand, behind, called, ended, place_behind, PartFollows, Follows, EndsAs, AllFollow, IsReplyOf, IsReplyBy, IsReplyTo, AreReplies, AreNoParks, asks_in, asks_of, DriveDecided, RunDecided, AllDecided, failures_in, refusals_in, in_run, if_driven, over_runs, failures, refusals, grants, drives, first_mark, end_mark, IsWell, AllWell, AllKept}
 use Rattle.ph_conn.proofs.FrontLemmas.{starts-more, starts-twice}
 
 -- ---- where they stand

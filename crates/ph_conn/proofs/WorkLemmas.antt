@@ -1,5 +1,5 @@
 -- What a session did with its means, request by request.
-use Rattle.std.proofs.Common.{◌≡◌, ℕ, ◌∷◌, ◌++◌, List, [], length, Option, Result, refl, sym, ap, ◌∙◌, subst}
+use Rattle.std.proofs.Common.{◌≡◌, ℕ, ◌∷◌, ◌++◌, List, [], length, Result, refl, sym, ap, ◌∙◌, subst}
 use Rattle.std.proofs.lemmas.List.{append-nil}
 use Rattle.ph_io.specs.Told.{SourceState, SinkState}
 use Rattle.ph_lock.specs.Histories.{StartsWith}
@@ -11,7 +11,7 @@ use Rattle.ph_http.specs.Items.{Item, items_of}
 use Rattle.ph_book.specs.declared.setup.Setup.{Setup}
 use Rattle.ph_book.specs.Legal.{IsLegal}
 use Rattle.ph_conn.specs.Answers.{Idles, Took}
-use Rattle.ph_conn.specs.Fronts.{Filed, Known, IsSame, KeepsLive, entries_in}
+use Rattle.ph_conn.specs.Fronts.{Known, IsSame, KeepsLive, entries_in}
 use Rattle.ph_conn.specs.Means.{Means, Counted}
 use Rattle.ph_conn.specs.Parts.{Part, requests_of, entries_of, mine_of, PartFollows, IsReplyTo, Stands, behind, AllStand, AllFollow, AreReplies, asks_of, AllDecided, over_runs, failures, refusals, grants, drives, IsWell, AllWell}
 use Rattle.ph_conn.specs.Served.{served, halt_of}
@@ -173,4 +173,3 @@ pub session_of : {result : Result Closed TalkError} {limit : ℕ} {means0 means1
     → session.StopsAs result (halt_of items limit) (length parts) → Session result limit means0 means1 input0 input1 output0 output1
 session_of g bytes taken items_are which_requests written stopped =
     session_with g.work bytes taken items_are which_requests (Whole g.well written) stopped
-

@@ -1,7 +1,6 @@
 -- What becomes of a request.
 use Rattle.std.specs.Prelude.{◌≡◌, ◌++◌, Bool, true, false, Result, Ok, Err, IsTrue}
 use Rattle.ph_base.specs.declared.acquirer.Ruling.{Ruling}
-use Rattle.ph_base.specs.declared.acquirer.Why.{Why}
 use Rattle.ph_base.specs.declared.acquirer.Why.TheVariants as why
 use Rattle.ph_attempts.specs.declared.flights.Flight.{Flight}
 use Rattle.ph_lock.specs.Histories.{StartsWith}

@@ -1,8 +1,7 @@
 -- A pass grows by every act, and so by several. The lemmas stand here, beside the definition, and call no tactic, since laws of the lock as a desk need them.
-use Rattle.std.specs.Prelude.{◌≡◌, List, [], ◌++◌}
+use Rattle.std.specs.Prelude.{[], ◌++◌}
 use Rattle.std.proofs.Common.{refl, sym, ap, ◌∙◌, append_assoc}
 use Rattle.std.proofs.lemmas.List.{append-nil}
-use Rattle.ph_lock.specs.Histories.{StartsWith}
 use Rattle.ph_lock.specs.Passes.{Shown}
 use Rattle.ph_conn.specs.Fronts.{Grown}
 

@@ -1,5 +1,5 @@
 -- The parts of a session: each is a request and what followed its call.
-use Rattle.std.specs.Prelude.{◌≡◌, ◌≢◌, ℕ, ◌+◌, ◌&&◌, Bool, true, false, List, [], ◌∷◌, ◌++◌, length, map, Option, Some, None}
+use Rattle.std.specs.Prelude.{◌≡◌, ◌≢◌, ℕ, ◌+◌, Bool, true, false, List, [], ◌∷◌, ◌++◌, length, map, Option, Some, None}
 use Rattle.std.specs.List.{flat_map}
 use Rattle.ph_base.specs.declared.acquirer.Ruling.{Ruling}
 use Rattle.ph_base.specs.declared.acquirer.Why.{Why}
@@ -21,7 +21,7 @@ use Rattle.ph_bank.specs.declared.driving.Driven.{Driven}
 use Rattle.ph_bank.specs.declared.driving.Driven.TheVariants as driven
 use Rattle.ph_bank.specs.Drives.{EndsWith, EndsDecided, waits}
 use Rattle.ph_bank.specs.Links.{Link}
-use Rattle.ph_conn.specs.Fronts.{Filed, entries_in, is_kept, said_behind}
+use Rattle.ph_conn.specs.Fronts.{Filed, said_behind}
 
 -- how the run of a call ended: its attempt was settled by a ruling, or it was given up for this reason
 pub data Ending : Type 0 where

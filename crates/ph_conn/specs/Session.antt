@@ -1,5 +1,5 @@
 -- What a session did.
-use Rattle.std.specs.Prelude.{◌≡◌, ℕ, ◌+◌, ◌⊎◌, Bool, true, false, List, [], ◌∷◌, ◌++◌, length, Option, Some, None, Result, Ok, Err}
+use Rattle.std.specs.Prelude.{◌≡◌, ℕ, ◌⊎◌, Bool, true, false, List, [], ◌∷◌, ◌++◌, length, Option, Some, None, Result, Ok, Err}
 use Rattle.ph_base.specs.Counts.{Rose}
 use Rattle.ph_base.specs.declared.acquirer.Why.TheVariants as why
 use Rattle.ph_bank.specs.Links.{KeepsDecisions, and_asks}

@@ -57,7 +57,9 @@ pub fn serve_solo<S: Source, K: Sink, A: Acquirer, P: Patience>(
     let mut talk = Talk::new(alloc);
     for i in 0..rules.limit {
         let fetched = fetch(&mut talk, input);
-        match step(alloc, &Alone, book, output, link, patience, rules, i, fetched) {
+        match step(
+            alloc, &Alone, book, output, link, patience, rules, i, fetched,
+        ) {
             None => {}
             Some(end) => return end,
         }

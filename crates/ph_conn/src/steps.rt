@@ -42,14 +42,14 @@ pub fn step<D: Desk, K: Sink, A: Acquirer, P: Patience>(
         (K.sink output.old) (K.sink output.new) }
 {
     match fetched {
-        Fetched::Request(raw, continues) =>
-            request(alloc, desk, held, output, link, patience, rules, i, raw, continues),
+        Fetched::Request(raw, continues) => request(
+            alloc, desk, held, output, link, patience, rules, i, raw, continues,
+        ),
         Fetched::Close(status) => Some(close(output, status, i as u64)),
         Fetched::End => Some(Ok(closed(i, Stop::End))),
         Fetched::Cut => Some(Err(TalkError::Cut)),
         Fetched::ReadFault => Some(Err(TalkError::ReadFault)),
-        Fetched::NoMemory =>
-            Some(Err(part(output, Fixed::NoMemory, TalkError::NoMemory))),
+        Fetched::NoMemory => Some(Err(part(output, Fixed::NoMemory, TalkError::NoMemory))),
     }
 }
 

@@ -81,7 +81,8 @@ fn run_two<R: Wait>(
     let served = serve_two(rt, alloc, &lock, &mut first, clients, shows);
     let (book, _view) = lock.close(rt, first);
     let mut text = served?;
-    text.push_str(history(alloc, book.history()).ok()?.as_str()).ok()?;
+    text.push_str(history(alloc, book.history()).ok()?.as_str())
+        .ok()?;
     Some(text)
 }
 
@@ -147,7 +148,11 @@ fn serve_both<R: Threads + Wait + Sync>(
     serve_all(rt, alloc, lock, workers.as_mut_slice());
     let mut text = String::new(alloc);
     for worker in &workers {
-        let line = format!(in alloc; "client {}: {} of 200\n", worker.pass.caller(), count(&worker.conn, "200 OK"));
+        let line = format!(in alloc;
+            "client {}: {} of 200\n",
+            worker.pass.caller(),
+            count(&worker.conn, "200 OK")
+        );
         text.push_str(line.ok()?.as_str()).ok()?;
     }
     Some(text)

@@ -23,7 +23,10 @@ pub fn payment(alloc: Global, card: &str) -> Result<Vec<u8>, AllocError> {
 
 /// A request with this body.
 pub fn post(alloc: Global, path: &str, body: &str) -> Result<Vec<u8>, AllocError> {
-    let head = format!(in alloc; "POST {path} HTTP/1.1\r\nAuthorization: Bearer sk_test_payhost\r\nContent-Length: {}\r\n\r\n", body.len())?;
+    let head = format!(in alloc;
+        "POST {path} HTTP/1.1\r\nAuthorization: Bearer sk_test_payhost\r\nContent-Length: {}\r\n\r\n",
+        body.len()
+    )?;
     let mut bytes = head.into_bytes();
     bytes.extend_from_slice(body.as_bytes())?;
     Ok(bytes)
@@ -31,6 +34,8 @@ pub fn post(alloc: Global, path: &str, body: &str) -> Result<Vec<u8>, AllocError
 
 /// A retrieve.
 pub fn get(alloc: Global, path: &str) -> Result<Vec<u8>, AllocError> {
-    let head = format!(in alloc; "GET {path} HTTP/1.1\r\nAuthorization: Bearer sk_test_payhost\r\n\r\n")?;
+    let head = format!(in alloc;
+        "GET {path} HTTP/1.1\r\nAuthorization: Bearer sk_test_payhost\r\n\r\n"
+    )?;
     Ok(head.into_bytes())
 }

@@ -20,7 +20,11 @@ fn print<R: io::Print>(rt: &R, name: &str, outcome: Outcome) -> io::Result<()> {
 
 fn main(rt: HostRuntime) -> io::Result<()> {
     let alloc = rt.alloc();
-    print(&rt, "fifty requests of each of two clients", fifty_each(&rt, alloc))?;
+    print(
+        &rt,
+        "fifty requests of each of two clients",
+        fifty_each(&rt, alloc),
+    )?;
     print(&rt, "the history is full", full(&rt, alloc))?;
     print(&rt, "the bytes end within a request", cut(&rt, alloc))?;
     print(&rt, "the link fails", link_fails(&rt, alloc))?;

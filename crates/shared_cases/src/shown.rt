@@ -33,7 +33,10 @@ pub fn written(conn: &MemDuplex) -> &str {
 
 /// How many replies of a session are of this status.
 pub fn count(conn: &MemDuplex, status: &str) -> usize {
-    written(conn).split("HTTP/1.1 ").filter(|reply| reply.starts_with(status)).count()
+    written(conn)
+        .split("HTTP/1.1 ")
+        .filter(|reply| reply.starts_with(status))
+        .count()
 }
 
 /// A line for each entry.
@@ -42,9 +45,14 @@ pub fn history(alloc: Global, entries: &[Entry]) -> Result<String, AllocError> {
     for entry in entries {
         let line = match &entry.deed {
             Deed::Call(_) => format!(in alloc; "caller {}: call\n", entry.caller)?,
-            Deed::Finish(run, ruling) =>
-                format!(in alloc; "caller {}: finish {run} {ruling:?}\n", entry.caller)?,
-            Deed::Park(run, why) => format!(in alloc; "caller {}: park {run} {why:?}\n", entry.caller)?,
+            Deed::Finish(run, ruling) => format!(in alloc;
+                "caller {}: finish {run} {ruling:?}\n",
+                entry.caller
+            )?,
+            Deed::Park(run, why) => format!(in alloc;
+                "caller {}: park {run} {why:?}\n",
+                entry.caller
+            )?,
             Deed::Tick(moment) => format!(in alloc; "caller {}: tick {moment}\n", entry.caller)?,
         };
         text.push_str(line.as_str())?;

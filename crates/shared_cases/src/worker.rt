@@ -66,8 +66,11 @@ pub fn serve_all<R: Threads + Wait + Sync>(
 {
     let threads = workers.len();
     if threads > 0 {
-        for_each_mut(rt, workers, threads, &|_, worker| {
-            serve(rt, alloc, lock, worker)
-        });
+        for_each_mut(
+            rt,
+            workers,
+            threads,
+            &|_, worker| { serve(rt, alloc, lock, worker) },
+        );
     }
 }
