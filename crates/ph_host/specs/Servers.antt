@@ -22,13 +22,6 @@ use Rattle.ph_host.specs.Visits.{Served}
 abbrev pub connection_limit : ℕ
 connection_limit = 1000
 
--- the relation holds of the first of both lists, of the second of both, and so on, and they are as long
-abbrev pub Pairs : {A B : Type 0} → (A → B → Type 0) → List A → List B → Type 0
-Pairs R [] [] = Unit {0}
-Pairs R [] (y ∷ ys) = ⊥
-Pairs R (x ∷ xs) [] = ⊥
-Pairs R (x ∷ xs) (y ∷ ys) = R x y × Pairs R xs ys
-
 -- a pass of this lock, which knows this front of the history, of which nothing is its caller's
 pub record IsNewPass (its_lock : TableId) (setup : Setup) (known : List Entry) (pass : Shown Entry Setup) : Type 0 where
   pub lock : pass.lock ≡ its_lock

@@ -1,5 +1,6 @@
 //! The top call of a server.
 ghost use Rattle.std.specs.Prelude.{◌≡◌, ◌≢◌, ℕ, [], All, None, Some, IfNone, IfSome, IsSomeAnd, false, true, length, map};
+ghost use Rattle.std.specs.List.{AllZip};
 ghost use Rattle.ph_lock.specs.Histories.{StartsWith};
 ghost use Rattle.ph_lock.specs.Passes.{IsPass, SamePass};
 ghost use Rattle.ph_book.specs.Hosts.{IsLawful};
@@ -7,7 +8,7 @@ ghost use Rattle.ph_conn.specs.Fronts.{known_by};
 ghost use Rattle.ph_drill.specs.Summary.{summary_of};
 ghost use Rattle.ph_host.specs.Plans.{WritesUsage, is_host_of, plan_of};
 ghost use Rattle.ph_host.specs.Runs.{new_book};
-ghost use Rattle.ph_host.specs.Servers.{IsNewPass, Pairs, Tells, WorksBy, connection_limit, status_of_ends};
+ghost use Rattle.ph_host.specs.Servers.{IsNewPass, Tells, WorksBy, connection_limit, status_of_ends};
 ghost use Rattle.ph_host.specs.Setups.{setup_of};
 ghost use Rattle.ph_host.specs.Visits.{Served};
 ghost use Rattle.ph_host.specs.declared.workers.WorkerEnd.TheVariants as WorkerEnd;
@@ -75,7 +76,7 @@ pub fn run_host<
     // Each worker served its gate by a pass of one book of the words' setup, which knew nothing of the history before; the
     // book that comes back is that one, and its history begins with what each pass showed last.
     ensures workers { IfSome result.1 (λ book. (book.setup ≡ setup_of words.now)
-        × Pairs (λ old new. (new.pass ≡ None) × IsSomeAnd new.last (λ shown. StartsWith book.history shown.front
+        × AllZip (λ old new. (new.pass ≡ None) × IsSomeAnd new.last (λ shown. StartsWith book.history shown.front
         × WorksBy (setup_of words.now) shown new.end (A.link old.link) (A.link new.link) (P.counts old.patience) (P.counts new.patience) (G.gate old.gate) (G.gate new.gate))) workers.old workers.new) }
 
     // The summary of its history was written, and the status is that of the workers' ends; or a write of it failed.
@@ -111,7 +112,7 @@ fn host<
     requires lawful { IsLawful book.setup book.history }
     ensures none { IfNone result.1 ((result.0 ≡ 6) × (workers.new ≡ workers.old) × (K.sink output.new ≡ K.sink output.old)) }
     ensures workers { IfSome result.1 (λ closed. (closed.setup ≡ book.setup)
-        × Pairs (λ old new. (new.pass ≡ None) × IsSomeAnd new.last (λ shown. StartsWith closed.history shown.front
+        × AllZip (λ old new. (new.pass ≡ None) × IsSomeAnd new.last (λ shown. StartsWith closed.history shown.front
         × WorksBy book.setup shown new.end (A.link old.link) (A.link new.link) (P.counts old.patience) (P.counts new.patience) (G.gate old.gate) (G.gate new.gate))) workers.old workers.new) }
     ensures summary { IfSome result.1 (λ closed. Tells (map (λ worker. worker.end) workers.new) result.0 (summary_of closed.setup closed.history) (K.sink output.old) (K.sink output.new)) }
 {
@@ -138,7 +139,7 @@ fn split_each<R: Wait, G, A, P>(
 )
     requires lock { first.old.lock ≡ lock.now }
     ensures same { first.new ≡ first.old }
-    ensures passes { Pairs (λ old new. (new.gate ≡ old.gate) × (new.link ≡ old.link) × (new.patience ≡ old.patience) × (new.last ≡ old.last)
+    ensures passes { AllZip (λ old new. (new.gate ≡ old.gate) × (new.link ≡ old.link) × (new.patience ≡ old.patience) × (new.last ≡ old.last)
         × IsSomeAnd new.pass (IsNewPass lock.now first.old.base first.old.front)) workers.old workers.new }
 {
     match workers {
@@ -183,7 +184,7 @@ where
     O::Deed: Send,
     O::Base: Send,
     requires passes { All (λ worker. IsSomeAnd worker.pass (λ pass. pass.lock ≡ lock.now)) workers.old }
-    ensures served { Pairs (λ old new. (new.last ≡ old.last) × IfSome old.pass (λ before. IsSomeAnd new.pass (λ after.
+    ensures served { AllZip (λ old new. (new.last ≡ old.last) × IfSome old.pass (λ before. IsSomeAnd new.pass (λ after.
         SamePass before after × IsPass O.by O.lawful after
         × Served connection_limit new.end
         (record { known = known_by O.setup O.plain O.mark before; link = A.link old.link; counts = P.counts old.patience })
@@ -243,7 +244,7 @@ fn join_each<G, A, P>(
     requires passes { All (λ worker. IsSomeAnd worker.pass (λ pass. pass.lock ≡ lock.now)) workers.old }
     ensures same { SamePass first.old first.new }
     ensures front { StartsWith first.new.front first.old.front }
-    ensures joined { Pairs (λ old new. (new.gate ≡ old.gate) × (new.link ≡ old.link) × (new.patience ≡ old.patience) × (new.end ≡ old.end)
+    ensures joined { AllZip (λ old new. (new.gate ≡ old.gate) × (new.link ≡ old.link) × (new.patience ≡ old.patience) × (new.end ≡ old.end)
         × (new.pass ≡ None) × IsSomeAnd old.pass (λ pass. (new.last ≡ Some pass) × StartsWith first.new.front pass.front)) workers.old workers.new }
 {
     match workers {
