@@ -1,3 +1,4 @@
 pub mod PairLemmas
+pub mod PlanLemmas
 mod SetupLemmas
 pub mod VisitLemmas

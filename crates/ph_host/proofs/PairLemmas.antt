@@ -2,6 +2,7 @@
 use Rattle.std.proofs.Common.{◌≡◌, ℕ, suc, ◌<◌, List, [], ◌∷◌, length, slice_index_or, arith}
 use Rattle.std.specs.Prelude.{All}
 use Rattle.std.specs.List.{AllZip}
+use Rattle.std.proofs.lemmas.List.Elements.{All-nil, All-cons}
 
 -- what holds at each place holds place by place
 pub zip_from_places : {A B : Type 0} (R : A → B → Type 0) (xs : List A) (ys : List B) → length xs ≡ length ys
@@ -26,7 +27,7 @@ zip_then R S T (x ∷ xs) (y ∷ ys) (z ∷ zs) both first second =
 -- where the relation gives a fact of the second, it holds of each
 pub all_of_zip : {A B : Type 0} (R : A → B → Type 0) (Q : B → Type 0) (xs : List A) (ys : List B)
     → ((x : A) (y : B) → R x y → Q y) → AllZip R xs ys → All Q ys
-all_of_zip R Q [] [] gives zip = tt
+all_of_zip R Q [] [] gives zip = All-nil Q
 all_of_zip R Q [] (y ∷ ys) gives zip = absurd zip
 all_of_zip R Q (x ∷ xs) [] gives zip = absurd zip
-all_of_zip R Q (x ∷ xs) (y ∷ ys) gives zip = (gives x y zip.0, all_of_zip R Q xs ys gives zip.1)
+all_of_zip R Q (x ∷ xs) (y ∷ ys) gives zip = All-cons Q y ys (gives x y zip.0) (all_of_zip R Q xs ys gives zip.1)

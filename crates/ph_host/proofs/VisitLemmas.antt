@@ -1,11 +1,13 @@
 -- How the connections of a worker follow each other.
-use Rattle.std.proofs.Common.{◌≡◌, ℕ, suc, ◌+◌, Bool, true, false, List, [], ◌∷◌, ◌++◌, length, refl, sym, ap, subst, ◌∙◌, arith}
+use Rattle.std.proofs.Common.{◌≡◌, ℕ, suc, ◌+◌, Bool, true, false, List, [], ◌∷◌, ◌++◌, length, Option, None, Some, refl, sym, ap, subst, ◌∙◌, arith}
 use Rattle.ph_io.specs.Gates.{GateState, AllBack, Gives, GateEnds, GateFails, TakesBack}
 use Rattle.ph_io.specs.declared.end.End.{End}
+use Rattle.ph_io.specs.declared.end.End.TheVariants as end
 use Rattle.ph_io.proofs.GateLemmas.{all_back_none, all_back_more, all_back_ends, all_back_fails}
 use Rattle.ph_bank.specs.Patiences.{next_count, counted_on}
 use Rattle.ph_conn.specs.Means.{Means}
-use Rattle.ph_host.specs.Visits.{Visit, IsVisit, AreVisits, AllGoOn, LastEnds, record_of, records_of, one_if, broken_in, is_broken, goes_on, end_of, EndsDone, EndsFailed, EndsEarly, Served}
+use Rattle.ph_host.specs.Visits.{Visit, IsVisit, AreVisits, AllGoOn, LastEnds, record_of, records_of, one_if, counted_if, broken_in, is_broken, stop_of, end_of, EndsDone, EndsFailed, EndsEarly, EndsAs, Served}
+use Rattle.ph_host.specs.declared.workers.WorkerEnd.{WorkerEnd}
 use Rattle.ph_host.specs.declared.workers.WorkerEnd.TheVariants as worker
 
 -- what stands of a worker between two connections
@@ -37,7 +39,7 @@ visits_more : (limit : ℕ) (means0 means1 : Means) (visits : List Visit) (visit
 visits_more limit means0 means1 [] visit same is = (subst (λ means. IsVisit limit means visit) same is, refl)
 visits_more limit means0 means1 (v ∷ visits) visit are is = (are.0, visits_more limit v.means means1 visits visit are.1 is)
 
-go_on_more : (visits : List Visit) (visit : Visit) → AllGoOn visits → goes_on (end_of visit.ending) ≡ true → AllGoOn (visits ++ visit ∷ [])
+go_on_more : (visits : List Visit) (visit : Visit) → AllGoOn visits → stop_of (end_of visit.ending) ≡ None → AllGoOn (visits ++ visit ∷ [])
 go_on_more [] visit all on = (on, tt)
 go_on_more (v ∷ visits) visit all on = (all.0, go_on_more visits visit all.1 on)
 
@@ -54,38 +56,35 @@ back_more : (gate0 gate1 gate2 gate3 : GateState) (visits : List Visit) (visit :
 back_more gate0 gate1 gate2 gate3 visits visit all gave took =
     subst (AllBack gate0 gate3) (sym (records_more visits visit)) (all_back_more all gave took)
 
--- one more connection was served, and the worker goes on
-serving_more : (limit served given_up after : ℕ) (means0 means1 : Means) (gate0 gate1 gate2 gate3 : GateState) (visit : Visit)
+counted_more : (b : Bool) (n m : ℕ) → n ≡ counted_on 0 m → counted_if b n ≡ counted_on 0 (one_if b + m)
+counted_more true n m e = ap next_count e ∙ ap (counted_on 0) (let more : suc m ≡ 1 + m = omega arith in more)
+counted_more false n m e = e ∙ ap (counted_on 0) (let none : m ≡ 0 + m = omega arith in none)
+
+-- one more connection was served, and the worker takes the next one
+pub serving_more : (limit served given_up : ℕ) (means0 means1 : Means) (gate0 gate1 gate2 gate3 : GateState) (visit : Visit)
     → Serving limit served given_up means0 means1 gate0 gate1 → Gives gate1 gate2 → TakesBack gate2 gate3 (record_of visit) → IsVisit limit means1 visit
-    → goes_on (end_of visit.ending) ≡ true
-    → ((visits : List Visit) → given_up ≡ counted_on 0 (broken_in visits) → after ≡ counted_on 0 (one_if (is_broken (end_of visit.ending)) + broken_in visits))
-    → Serving limit (next_count served) after means0 visit.means gate0 gate3
-serving_more limit served given_up after means0 means1 gate0 gate1 gate2 gate3 visit so_far gave took is on counts = record {
+    → stop_of (end_of visit.ending) ≡ None
+    → Serving limit (counted_if true served) (counted_if (is_broken (end_of visit.ending)) given_up) means0 visit.means gate0 gate3
+serving_more limit served given_up means0 means1 gate0 gate1 gate2 gate3 visit so_far gave took is on = record {
   visits = so_far.visits ++ visit ∷ [];
   visited = visits_more limit means0 means1 so_far.visits visit so_far.visited is;
   all_back = back_more gate0 gate1 gate2 gate3 so_far.visits visit so_far.all_back gave took;
   went_on = go_on_more so_far.visits visit so_far.went_on on;
   sessions = ap next_count so_far.sessions ∙ ap (counted_on 0) (sym (length_more so_far.visits visit));
-  broken = counts so_far.visits so_far.broken ∙ ap (counted_on 0) (sym (broken_more so_far.visits visit));
+  broken = counted_more (is_broken (end_of visit.ending)) given_up (broken_in so_far.visits) so_far.broken ∙ ap (counted_on 0) (sym (broken_more so_far.visits visit));
 }
 
--- its session was closed
-pub serving_closed : (limit served given_up : ℕ) (means0 means1 : Means) (gate0 gate1 gate2 gate3 : GateState) (visit : Visit) (how : End)
-    → Serving limit served given_up means0 means1 gate0 gate1 → Gives gate1 gate2 → TakesBack gate2 gate3 (record_of visit) → IsVisit limit means1 visit
-    → end_of visit.ending ≡ how → goes_on how ≡ true → is_broken how ≡ false
-    → Serving limit (next_count served) given_up means0 visit.means gate0 gate3
-serving_closed limit served given_up means0 means1 gate0 gate1 gate2 gate3 visit how so_far gave took is ends on whole =
-    serving_more limit served given_up given_up means0 means1 gate0 gate1 gate2 gate3 visit so_far gave took is (ap goes_on ends ∙ on)
-    (λ visits e. e ∙ ap (λ b. counted_on 0 (one_if b + broken_in visits)) (sym (ap is_broken ends ∙ whole)))
-
--- its session was broken off
-pub serving_broken : (limit served given_up : ℕ) (means0 means1 : Means) (gate0 gate1 gate2 gate3 : GateState) (visit : Visit) (how : End)
-    → Serving limit served given_up means0 means1 gate0 gate1 → Gives gate1 gate2 → TakesBack gate2 gate3 (record_of visit) → IsVisit limit means1 visit
-    → end_of visit.ending ≡ how → goes_on how ≡ true → is_broken how ≡ true
-    → Serving limit (next_count served) (next_count given_up) means0 visit.means gate0 gate3
-serving_broken limit served given_up means0 means1 gate0 gate1 gate2 gate3 visit how so_far gave took is ends on off =
-    serving_more limit served given_up (next_count given_up) means0 means1 gate0 gate1 gate2 gate3 visit so_far gave took is (ap goes_on ends ∙ on)
-    (λ visits e. ap next_count e ∙ ap (λ b. counted_on 0 (one_if b + broken_in visits)) (sym (ap is_broken ends ∙ off)))
+-- the same under other names of the counts
+pub serving_as : (limit served given_up served1 given_up1 : ℕ) (means0 means1 : Means) (gate0 gate1 : GateState) → served1 ≡ served → given_up1 ≡ given_up
+    → Serving limit served given_up means0 means1 gate0 gate1 → Serving limit served1 given_up1 means0 means1 gate0 gate1
+serving_as limit served given_up served1 given_up1 means0 means1 gate0 gate1 a b s = record {
+  visits = s.visits;
+  visited = s.visited;
+  all_back = s.all_back;
+  went_on = s.went_on;
+  sessions = a ∙ s.sessions;
+  broken = b ∙ s.broken;
+}
 
 -- then there were no more
 pub served_done : (limit served given_up : ℕ) (means0 means1 : Means) (gate0 gate1 gate2 : GateState)
@@ -105,17 +104,28 @@ served_failed limit served given_up means0 means1 gate0 gate1 gate2 so_far last 
   ended = record { all_back = all_back_fails so_far.all_back last; went_on = so_far.went_on };
 }
 
--- the last connection was served, and the worker doesn't go on behind it
-pub ends_early : (limit served given_up : ℕ) (means0 means1 : Means) (gate0 gate1 gate2 gate3 : GateState) (visit : Visit) (how : End)
-    → (so_far : Serving limit served given_up means0 means1 gate0 gate1) → Gives gate1 gate2 → TakesBack gate2 gate3 (record_of visit)
-    → end_of visit.ending ≡ how → EndsEarly how (so_far.visits ++ visit ∷ []) gate0 gate3
-ends_early limit served given_up means0 means1 gate0 gate1 gate2 gate3 visit how so_far gave took ends = record {
-  all_back = back_more gate0 gate1 gate2 gate3 so_far.visits visit so_far.all_back gave took;
-  early = took.ended ∙ gave.ended;
-  last = record { before = so_far.visits; last = visit; all = refl; went_on = so_far.went_on; ended = ends };
-}
+stops_so : (how : End) (stop : WorkerEnd) (visits : List Visit) (gate0 gate1 : GateState) → stop_of how ≡ Some stop
+    → EndsEarly how visits gate0 gate1 → EndsAs stop visits gate0 gate1
+stops_so end.Closed stop visits gate0 gate1 is ends = absurd (let clash : None ≡ Some stop = is in cc)
+stops_so end.Cut stop visits gate0 gate1 is ends = absurd (let clash : None ≡ Some stop = is in cc)
+stops_so end.ReadFault stop visits gate0 gate1 is ends = absurd (let clash : None ≡ Some stop = is in cc)
+stops_so end.WriteFault stop visits gate0 gate1 is ends = absurd (let clash : None ≡ Some stop = is in cc)
+stops_so end.KeepFault stop visits gate0 gate1 is ends = absurd (let clash : None ≡ Some stop = is in cc)
+stops_so end.Full stop visits gate0 gate1 is ends =
+    subst (λ w. EndsAs w visits gate0 gate1) (let e : Some worker.Full ≡ Some stop = is in let same : worker.Full ≡ stop = cc in same) ends
+stops_so end.NoMemory stop visits gate0 gate1 is ends =
+    subst (λ w. EndsAs w visits gate0 gate1) (let e : Some worker.NoMemory ≡ Some stop = is in let same : worker.NoMemory ≡ stop = cc in same) ends
 
-pub visited_last : (limit served given_up : ℕ) (means0 means1 : Means) (gate0 gate1 : GateState) (visit : Visit)
-    → (so_far : Serving limit served given_up means0 means1 gate0 gate1) → IsVisit limit means1 visit
-    → AreVisits limit means0 (so_far.visits ++ visit ∷ []) visit.means
-visited_last limit served given_up means0 means1 gate0 gate1 visit so_far is = visits_more limit means0 means1 so_far.visits visit so_far.visited is
+-- the last connection was served, and the worker ends behind it
+pub served_last : (limit served given_up : ℕ) (means0 means1 : Means) (gate0 gate1 gate2 gate3 : GateState) (visit : Visit) (stop : WorkerEnd)
+    → Serving limit served given_up means0 means1 gate0 gate1 → Gives gate1 gate2 → TakesBack gate2 gate3 (record_of visit) → IsVisit limit means1 visit
+    → stop_of (end_of visit.ending) ≡ Some stop → Served limit stop means0 visit.means gate0 gate3
+served_last limit served given_up means0 means1 gate0 gate1 gate2 gate3 visit stop so_far gave took is ends = record {
+  visits = so_far.visits ++ visit ∷ [];
+  served = visits_more limit means0 means1 so_far.visits visit so_far.visited is;
+  ended = stops_so (end_of visit.ending) stop (so_far.visits ++ visit ∷ []) gate0 gate3 ends (record {
+    all_back = back_more gate0 gate1 gate2 gate3 so_far.visits visit so_far.all_back gave took;
+    early = took.ended ∙ gave.ended;
+    last = record { before = so_far.visits; last = visit; all = refl; went_on = so_far.went_on; ended = refl };
+  });
+}

@@ -1,5 +1,5 @@
 -- What the words of the command line ask for.
-use Rattle.std.specs.Prelude.{ℕ, Bool, true, false, ◌==◌, ◌⊎◌, ◌&&◌, List, [], ◌∷◌, ◌++◌, codes, bytes_eq, if◌then◌else◌, Option, Some, None, unwrap_or, option_and_then}
+use Rattle.std.specs.Prelude.{ℕ, Bool, true, false, ◌==◌, ◌⊎◌, List, [], ◌∷◌, ◌++◌, codes, bytes_eq, if◌then◌else◌, Option, Some, None, unwrap_or, option_and_then}
 use Rattle.ph_io.specs.Told.{SinkState}
 use Rattle.ph_io.specs.Writes.{Takes, TakesFront}
 use Rattle.ph_host.specs.Options.{are_options, connections_in, patience_in, port_in, workers_in}
@@ -29,12 +29,22 @@ abbrev pub host_plan : List (List ℕ) → Option ℕ → Plan
 host_plan words None = Usage
 host_plan words (Some port) = Host port (workers_of words) (connections_of words) (patience_of words)
 
+-- a session with this patience, where the words behind the command are its options
+abbrev pub once_if : Bool → ℕ → Plan
+once_if true patience = Once patience
+once_if false patience = Usage
+
+-- a server on this port, where the words behind the command are its options
+abbrev pub host_if : Bool → List (List ℕ) → Option ℕ → Plan
+host_if true words port = host_plan words port
+host_if false words port = Usage
+
 -- the plan that the words name: for now, `stdio` or `serve` with its options
 abbrev pub plan_of : List (List ℕ) → Plan
 plan_of [] = Usage
 plan_of (word ∷ words) =
-    if bytes_eq word (codes "stdio") && are_options Stdio words then Once (patience_of (word ∷ words))
-    else if bytes_eq word (codes "serve") && are_options Serve words then host_plan (word ∷ words) (port_of (word ∷ words))
+    if bytes_eq word (codes "stdio") then once_if (are_options Stdio words) (patience_of (word ∷ words))
+    else if bytes_eq word (codes "serve") then host_if (are_options Serve words) (word ∷ words) (port_of (word ∷ words))
     else Usage
 
 -- the plan is one session over a source and a sink

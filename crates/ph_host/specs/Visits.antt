@@ -1,10 +1,10 @@
 -- What a worker does with the connections of its gate.
-use Rattle.std.specs.Prelude.{◌≡◌, ℕ, ◌+◌, Bool, true, false, List, [], ◌∷◌, ◌++◌, length, map, Result, Ok, Err}
+use Rattle.std.specs.Prelude.{◌≡◌, ℕ, ◌+◌, Bool, true, false, List, [], ◌∷◌, ◌++◌, length, map, Option, None, Some, Result, Ok, Err}
 use Rattle.ph_io.specs.Told.{SourceState, SinkState}
 use Rattle.ph_io.specs.Gates.{GateState, Return, IsFresh, AllBack, EndsAllBack, FailsAllBack, return_of}
 use Rattle.ph_io.specs.declared.end.End.{End}
 use Rattle.ph_io.specs.declared.end.End.TheVariants as end
-use Rattle.ph_bank.specs.Patiences.{counted_on}
+use Rattle.ph_bank.specs.Patiences.{next_count, counted_on}
 use Rattle.ph_conn.specs.Means.{Means}
 use Rattle.ph_conn.specs.Session.{Session}
 use Rattle.ph_conn.specs.declared.endings.Closed.{Closed}
@@ -59,15 +59,20 @@ is_broken end.KeepFault = true
 is_broken end.Full = false
 is_broken end.NoMemory = false
 
--- behind a session that ends so its worker takes the next connection
-abbrev pub goes_on : End → Bool
-goes_on end.Closed = true
-goes_on end.Cut = true
-goes_on end.ReadFault = true
-goes_on end.WriteFault = true
-goes_on end.KeepFault = true
-goes_on end.Full = false
-goes_on end.NoMemory = false
+-- how a worker ends behind a session that ended so, where it doesn't take the next connection
+abbrev pub stop_of : End → Option WorkerEnd
+stop_of end.Closed = None
+stop_of end.Cut = None
+stop_of end.ReadFault = None
+stop_of end.WriteFault = None
+stop_of end.KeepFault = None
+stop_of end.Full = Some worker.Full
+stop_of end.NoMemory = Some worker.NoMemory
+
+-- a count one on, where this is so; at its type's end it stands
+abbrev pub counted_if : Bool → ℕ → ℕ
+counted_if true count = next_count count
+counted_if false count = count
 
 -- one, where this is so
 abbrev pub one_if : Bool → ℕ
@@ -82,7 +87,7 @@ broken_in (visit ∷ visits) = one_if (is_broken (end_of visit.ending)) + broken
 -- the worker went on behind each of these
 abbrev pub AllGoOn : List Visit → Type 0
 AllGoOn [] = Unit {0}
-AllGoOn (visit ∷ visits) = (goes_on (end_of visit.ending) ≡ true) × AllGoOn visits
+AllGoOn (visit ∷ visits) = (stop_of (end_of visit.ending) ≡ None) × AllGoOn visits
 
 -- the last session ended so, and the worker had gone on behind each before it
 pub record LastEnds (how : End) (visits : List Visit) : Type 0 where

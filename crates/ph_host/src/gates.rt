@@ -2,7 +2,7 @@
 ghost use Rattle.std.specs.Prelude.{◌≡◌};
 ghost use Rattle.ph_lock.specs.Passes.{IsPass, SamePass};
 ghost use Rattle.ph_conn.specs.Fronts.{known_by};
-ghost use Rattle.ph_host.specs.Visits.{Served, end_of};
+ghost use Rattle.ph_host.specs.Visits.{Served, counted_if, end_of, is_broken, stop_of};
 
 use crate::workers::WorkerEnd;
 use ph_bank::{Acquirer, Patience};
@@ -43,19 +43,46 @@ pub fn serve_gate<R: Wait, O: Hosted, G: Gate, A: Acquirer, P: Patience>(
             Ok(None) => return WorkerEnd::Done { sessions, broken },
             Err(GateFailed) => return WorkerEnd::GateFault,
         };
-        let end = end_of(serve_shared(rt, alloc, lock, pass, &mut conn, link, patience, rules));
+        let ending = serve_shared(rt, alloc, lock, pass, &mut conn, link, patience, rules);
+        let end = end_of(ending);
         gate.back(conn, end);
-        sessions = sessions.saturating_add(1);
-        match end {
-            End::Closed => {}
-            End::Cut | End::ReadFault | End::WriteFault | End::KeepFault => {
-                broken = broken.saturating_add(1);
-            }
-            End::Full => return WorkerEnd::Full,
-            End::NoMemory => return WorkerEnd::NoMemory,
+        sessions = counted(sessions, true);
+        broken = counted(broken, is_broken(end));
+        match stop_of(end) {
+            Some(stop) => return stop,
+            None => {}
         }
     }
     unreachable!()
+}
+
+// A count one on, where one more is to be counted.
+fn counted(count: u64, more: bool) -> u64
+    ensures { result ≡ counted_if more count }
+{
+    if more { count.saturating_add(1) } else { count }
+}
+
+// Whether a session was broken off by a read or a write that failed, by an input that ended within a request, or by a store that
+// failed.
+fn is_broken(end: End) -> bool
+    ensures { result ≡ is_broken end }
+{
+    match end {
+        End::Cut | End::ReadFault | End::WriteFault | End::KeepFault => true,
+        End::Closed | End::Full | End::NoMemory => false,
+    }
+}
+
+// How a worker ends behind a session that ended so, where it doesn't take the next connection.
+fn stop_of(end: End) -> Option<WorkerEnd>
+    ensures { result ≡ stop_of end }
+{
+    match end {
+        End::Full => Some(WorkerEnd::Full),
+        End::NoMemory => Some(WorkerEnd::NoMemory),
+        End::Closed | End::Cut | End::ReadFault | End::WriteFault | End::KeepFault => None,
+    }
 }
 
 // How a session ended, as its gate is told.

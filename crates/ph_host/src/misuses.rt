@@ -1,11 +1,11 @@
 //! What is wrong with words that ask for nothing that payhost does.
-ghost use Rattle.std.specs.Prelude.{◌≡◌, is_none};
+ghost use Rattle.std.specs.Prelude.{◌≡◌, is_none, is_some};
 ghost use Rattle.ph_host.specs.Options.{are_options};
-ghost use Rattle.ph_host.specs.Plans.{is_planned, plan_of};
+ghost use Rattle.ph_host.specs.Plans.{is_planned, plan_of, port_of};
 
 use crate::commands::Command;
 use crate::options::{given, is_named, takes};
-use crate::setups::options;
+use crate::planning::port;
 use ph_base::Bytes;
 use std::fmt;
 
@@ -29,6 +29,7 @@ pub enum Misuse<'w> {
 }
 
 /// What is wrong with words. None exactly where they ask for something that payhost does.
+#[tactic(auto, using(crate::proofs::PlanLemmas::planned_once, crate::proofs::PlanLemmas::planned_host))]
 pub fn find_misuse(words: &[Bytes]) -> Option<Misuse<'_>>
     ensures { is_none result ≡ is_planned (plan_of words.now) }
 {
@@ -48,6 +49,7 @@ pub fn find_misuse(words: &[Bytes]) -> Option<Misuse<'_>>
 }
 
 // What is wrong with the options of a command.
+#[tactic(auto, unfolding(crate::specs::Options::is_option))]
 fn option_misuse(command: Command, words: &[Bytes]) -> Option<Misuse<'_>>
     ensures { is_none result ≡ are_options command words.now }
 {
@@ -76,8 +78,10 @@ fn not_taken<'w>(command: Command, name: &'w [u8], value: &'w [u8]) -> Misuse<'w
 }
 
 // What is wrong with a server's options: it may have no port.
-fn port_misuse(words: &[Bytes]) -> Option<Misuse<'_>> {
-    match given(b"--port", options(words)) {
+fn port_misuse(words: &[Bytes]) -> Option<Misuse<'_>>
+    ensures { is_none result ≡ is_some (port_of words.now) }
+{
+    match port(words) {
         Some(_) => None,
         None => Some(Misuse::NoPort),
     }

@@ -1,6 +1,8 @@
 //! The plan that the words of the command line name.
 ghost use Rattle.std.specs.Prelude.{◌≡◌};
-ghost use Rattle.ph_host.specs.Plans.{connections_of, host_plan, patience_of, plan_of, port_of, workers_of};
+ghost use Rattle.ph_host.specs.Options.{are_options};
+ghost use Rattle.ph_host.specs.Plans.{connections_of, host_if, host_plan, once_if, patience_of, plan_of, port_of, workers_of};
+ghost use Rattle.ph_host.specs.declared.commands.Command.TheVariants.{Stdio, Serve};
 
 use crate::commands::Command;
 use crate::options::{are_options, connections_in, given, patience_in, port_in, workers_in};
@@ -32,15 +34,37 @@ pub fn plan(words: &[Bytes]) -> Plan
     ensures { result ≡ plan_of words.now }
 {
     match words {
-        [word, options @ ..]
-            if word.as_slice() == b"stdio".as_slice() && are_options(Command::Stdio, options) =>
-            Plan::Once {
-                patience: patience(words),
-            },
-        [word, options @ ..]
-            if word.as_slice() == b"serve".as_slice() && are_options(Command::Serve, options) =>
-            host_plan(words),
+        [word, options @ ..] if word.as_slice() == b"stdio".as_slice() => {
+            once_plan(words, options)
+        }
+        [word, options @ ..] if word.as_slice() == b"serve".as_slice() => {
+            serve_plan(words, options)
+        }
         _ => Plan::Usage,
+    }
+}
+
+// The plan of a session, where the words behind the command are its options.
+fn once_plan(words: &[Bytes], options: &[Bytes]) -> Plan
+    ensures { result ≡ once_if (are_options Stdio options.now) (patience_of words.now) }
+{
+    if are_options(Command::Stdio, options) {
+        Plan::Once {
+            patience: patience(words),
+        }
+    } else {
+        Plan::Usage
+    }
+}
+
+// The plan of a server, where the words behind the command are its options.
+fn serve_plan(words: &[Bytes], options: &[Bytes]) -> Plan
+    ensures { result ≡ host_if (are_options Serve options.now) words.now (port_of words.now) }
+{
+    if are_options(Command::Serve, options) {
+        host_plan(words)
+    } else {
+        Plan::Usage
     }
 }
 
@@ -69,8 +93,8 @@ fn patience(words: &[Bytes]) -> u32
     }
 }
 
-// The port that is listened on.
-fn port(words: &[Bytes]) -> Option<u16>
+/// The port that is listened on.
+pub fn port(words: &[Bytes]) -> Option<u16>
     ensures { result ≡ port_of words.now }
 {
     match given(b"--port", options(words)) {

@@ -8,7 +8,7 @@ use Rattle.ph_drill.proofs.lines.write_balance.Goals as goal
 
 pub returns-in_err-write_word : goal.returns-in_err-write_word
 returns-in_err-write_word g c =
-    let p = err_from_is_err_and c.from_residual-in_err-write_word.result c.from_residual-in_err-write_word.ensures.1 in
+    let p = err_from_is_err_and c.from_residual.result c.from_residual.ensures.1 in
     writes_err _ p.0 p.1
     (front_of_more
     (word_and (codes " ") c.args.account.now ++ word_and (codes " ") c.args.code.now ++ word_and (codes " ") (signed_decimal c.args.available) ++ word_and (codes "\n") (signed_decimal c.args.pending))
@@ -41,6 +41,6 @@ returns-in_err-write_number g c =
 
 pub returns : goal.returns
 returns g c =
-    writes_then c.write_number-2.result c.in_ok-write_word.ensures
-    (writes_then c.write_number-2.result c.in_ok-write_word-2.ensures
-    (writes_then c.write_number-2.result c.in_ok-write_word-3.ensures (writes_then c.write_number-2.result c.in_ok-write_number.ensures c.write_number-2.ensures)))
+    writes_then _ _ c.write_number-2.result c.in_ok-write_word.ensures
+    (writes_then _ _ c.write_number-2.result c.in_ok-write_word-2.ensures
+    (writes_then _ _ c.write_number-2.result c.in_ok-write_word-3.ensures (writes_then _ _ c.write_number-2.result c.in_ok-write_number.ensures c.write_number-2.ensures)))

@@ -7,8 +7,8 @@ use Rattle.ph_drill.proofs.lines.write_count.Goals as goal
 
 pub returns-in_err-write_word : goal.returns-in_err-write_word
 returns-in_err-write_word g c =
-    let p = err_from_is_err_and c.from_residual-in_err-write_word.result c.from_residual-in_err-write_word.ensures.1 in
+    let p = err_from_is_err_and c.from_residual.result c.from_residual.ensures.1 in
     writes_err _ p.0 p.1 (front_of_more (word_and (codes "\n") (decimal c.args.number)) c.in_err-write_word.ensures)
 
 pub returns : goal.returns
-returns g c = writes_then c.write_number.result c.in_ok-write_word.ensures c.write_number.ensures
+returns g c = writes_then _ _ c.write_number.result c.in_ok-write_word.ensures c.write_number.ensures
