@@ -1,3 +1,4 @@
+pub mod HostLemmas
 pub mod PairLemmas
 pub mod PlanLemmas
 mod SetupLemmas
