@@ -6,8 +6,9 @@ use Rattle.ph_bank.specs.Links.{Link}
 use Rattle.ph_bank.specs.Patiences.{Granted}
 use Rattle.ph_book.specs.declared.acts.Entry.{Entry}
 use Rattle.ph_book.specs.declared.hosted.Kept.TheVariants as kept
+use Rattle.ph_book.specs.History.{replies_of}
 use Rattle.ph_book.specs.State.{BookState}
-use Rattle.ph_conn.specs.Fronts.{Filed, kept_entry, known_alone}
+use Rattle.ph_conn.specs.Fronts.{Filed, entries_in, kept_entry, known_alone}
 use Rattle.ph_conn.specs.Means.{Means}
 use Rattle.ph_conn.specs.Parts.{Run, Part, AllKept, AllStand, EndFollows, behind, called, end_filed, end_mark, ended, first_mark, place_behind}
 use Rattle.ph_conn.specs.Session.{Session, SoloSession}
@@ -15,6 +16,7 @@ use Rattle.ph_conn.specs.declared.endings.Closed.{Closed}
 use Rattle.ph_conn.specs.declared.endings.TalkError.{TalkError}
 use Rattle.ph_conn.proofs.FrontLemmas.{starts-twice}
 use Rattle.ph_conn.proofs.PartLemmas.{part-starts}
+use Rattle.ph_conn.proofs.SoloLemmas.{replies_behind_all}
 
 -- each of these is kept
 abbrev pub AllYes : List Filed → Type 0
@@ -56,11 +58,13 @@ all-kept caller first last (part ∷ parts) are stand = (
   all-kept caller (behind caller part) last parts are stand.1,
 )
 
--- over a book alone each entry is kept
-pub alone : {result : Result Closed TalkError} {limit : ℕ} {means0 : Means} {link : Link} {counts : Granted} {input0 input1 : SourceState} {output0 output1 : SinkState} (book : BookState)
-    → Session result limit means0 (record { known = known_alone book; link = link; counts = counts }) input0 input1 output0 output1
-    → SoloSession result limit means0 (record { known = known_alone book; link = link; counts = counts }) input0 input1 output0 output1
-alone {means0 = means0} book s = record {
+-- over a book alone each entry is kept, and each reply is one of the session
+pub alone : {result : Result Closed TalkError} {limit : ℕ} {link0 link1 : Link} {counts0 counts1 : Granted} {input0 input1 : SourceState} {output0 output1 : SinkState} (old new : BookState)
+    → Session result limit (record { known = known_alone old; link = link0; counts = counts0 }) (record { known = known_alone new; link = link1; counts = counts1 }) input0 input1 output0 output1
+    → SoloSession result limit (record { known = known_alone old; link = link0; counts = counts0 }) (record { known = known_alone new; link = link1; counts = counts1 }) input0 input1 output0 output1
+alone old new s = record {
   session = s;
-  kept = all-kept means0.known.caller means0.known.front (known_alone book).front s.parts (history-yes book.history) s.stand;
+  kept = all-kept 0 (known_alone old).front (known_alone new).front s.parts (history-yes new.history) s.stand;
+  answered = ap (λ setup. replies_of setup (entries_in (known_alone new).front)) s.same.setup
+      ∙ replies_behind_all old.setup 0 (known_alone old).front (known_alone new).front s.parts s.replies s.one_history s.stand s.entered_once s.followed s.replied;
 }

@@ -10,6 +10,7 @@ mod PlaceLemmas
 mod ReadLemmas
 mod ServedLemmas
 mod SessionLemmas
+mod SoloLemmas
 mod TextLemmas
 mod WorkLemmas
 mod WriteLemmas

@@ -13,11 +13,12 @@ use Rattle.ph_http.specs.Items.{Item, items_of}
 use Rattle.ph_errors.specs.declared.fixed.Fixed.{Fixed}
 use Rattle.ph_errors.specs.declared.fixed.Fixed.TheVariants as fixed
 use Rattle.ph_errors.specs.Fixed.{closing_of}
+use Rattle.ph_book.specs.History.{replies_of}
 use Rattle.ph_book.specs.Replies.{park_reply}
 use Rattle.ph_book.specs.declared.hosted.Kept.TheVariants as kept
 use Rattle.ph_conn.specs.Answers.{BreaksFor, IsFullFor}
 use Rattle.ph_conn.specs.Means.{Means, Counted}
-use Rattle.ph_conn.specs.Fronts.{Known, IsSame, KeepsLive}
+use Rattle.ph_conn.specs.Fronts.{Known, IsSame, KeepsLive, entries_in}
 use Rattle.ph_conn.specs.Parts.{Part, requests_of, mine_of, AllStand, AllFollow, AreReplies, AreNoParks, asks_of, AllDecided, over_runs, failures, refusals, grants, drives, is_out, mark_of, AllWell, AllKept, LastIs}
 use Rattle.ph_conn.specs.Served.{Halt, Stopped, AtCut, Open, served, halt_of, replies_text, next_line, output}
 use Rattle.ph_conn.specs.Texts.{last_words}
@@ -223,7 +224,8 @@ pub record Session (result : Result Closed TalkError) (limit : ℕ) (means0 mean
   -- the session ended as its items have it halt
   pub stopped : StopsAs result (halt_of items limit) (length parts)
 
--- A session over a book that no one else has: all of its entries are kept.
+-- A session over a book that no one else has: all of its entries are kept, and the replies of its new history are those of the old one and then those of the session.
 pub record SoloSession (result : Result Closed TalkError) (limit : ℕ) (means0 means1 : Means) (input0 input1 : SourceState) (output0 output1 : SinkState) : Type 0 where
   pub session : Session result limit means0 means1 input0 input1 output0 output1
   pub kept : AllKept session.parts
+  pub answered : replies_of means1.known.setup (entries_in means1.known.front) ≡ replies_of means0.known.setup (entries_in means0.known.front) ++ session.replies

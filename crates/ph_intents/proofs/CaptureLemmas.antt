@@ -159,6 +159,8 @@ capture_keeps state entry account call ready texts =
         (adds_told account row.object received event.IntentSucceeded (with_charge_captured state.rows amount intent.latest_charge (batch_after state entry)))
         (KeepsRows state 5) (λ out. wrong_value (codes "amount_to_capture"))
         (λ bounds.
-        let no_more : nat_lt intent.amount_capturable amount ≡ false = second_fails (amount == 0) (nat_lt intent.amount_capturable amount) bounds in
-        (of_charge row intent there found amount (grind (arith, nat_tests)) step.1 intent.latest_charge
-        (ready.sound.laws.held row.object row intent there.latest there.is step.0), may))
+        let no_more : nat_lt intent.amount_capturable amount ≡ false = second_fails (amount == 0) (nat_lt intent.amount_capturable amount) bounds in (
+          of_charge row intent there found amount (grind (arith, nat_tests)) step.1 intent.latest_charge
+              (ready.sound.laws.held row.object row intent there.latest there.is step.0),
+          may,
+        ))

@@ -1,8 +1,7 @@
 -- What a ruling adds may be entered after sound rows.
 use Rattle.std.specs.Prelude.{option_and_then}
-use Rattle.std.proofs.Common.{◌≡◌, ℕ, ◌+◌, ◌≤◌, ◌<◌, ◌^◌, false, List, [], ◌∷◌, ◌++◌, Option, None, Some, length, refl, sym, ap, ◌∙◌, subst, arith}
+use Rattle.std.proofs.Common.{◌≡◌, ℕ, ◌+◌, ◌≤◌, ◌<◌, ◌^◌, false, List, [], ◌∷◌, ◌++◌, Option, Some, length, refl, sym, ap, ◌∙◌, subst, arith}
 use Rattle.std.specs.List.{list_any}
-use Rattle.std.proofs.lemmas.List.{append-nil}
 use Rattle.ph_base.specs.declared.acquirer.Ruling.{Ruling}
 use Rattle.ph_base.specs.declared.acquirer.Ruling.TheVariants as ruling
 use Rattle.ph_base.specs.declared.ids.Kind.TheVariants as kind
@@ -28,7 +27,6 @@ use Rattle.ph_items.specs.declared.orders.Order.{Order}
 use Rattle.ph_facts.specs.Shown.{ShowsAttempt, ShowsIntent}
 use Rattle.ph_facts.specs.Touches.{Touch, Settles}
 use Rattle.ph_items.specs.declared.intents.PaymentError.TheVariants as payment_error
-use Rattle.ph_items.specs.declared.items.Item.{Item}
 use Rattle.ph_items.specs.declared.items.Item.TheVariants as item
 use Rattle.ph_rows.specs.Batches.{BatchState, next_row, with_row, with_announced}
 use Rattle.ph_facts.specs.Entering.{MayBeEntered}
@@ -37,7 +35,7 @@ use Rattle.ph_items.specs.Kinds.{kind_of}
 use Rattle.ph_rows.specs.Rows.{row_at, latest_of}
 use Rattle.ph_facts.specs.Held.{AreHeld, IsHeldBy, charge_of}
 use Rattle.ph_facts.specs.Origins.{HasOrigins, IsOrigin, charge_named, origins_of}
-use Rattle.ph_facts.specs.Sound.{IsSound, KeepLaws}
+use Rattle.ph_facts.specs.Sound.{KeepLaws}
 use Rattle.ph_rows.specs.Views.{ViewState}
 use Rattle.ph_items.specs.Weights.{texts_of}
 use Rattle.ph_items.specs.Words.{subject_of}
@@ -276,14 +274,14 @@ settled_enters state entry how row intent_row attempt intent ready stood there =
           few = omega arith;
           shown = shows_both attempt_state.Declined status.RequiresPaymentMethod;
           enters = ruled_enters state intent_row intent new event.IntentPaymentFailed batch ready there
-        (record {
-          underway = underway;
-          few = omega arith;
-          leave = λ other differs. (tt, (loose other, tt));
-        }) (failed_texts intent (payment_error.Declined decline) status.RequiresPaymentMethod texts) refl
-        (has_begun_origin _ failed (each_begun state batch.rows underway.continues.follow).1.0, tt)
-        (decline_keeps state account object intent (before (ruling.Declined decline)) (version new batch ∷ []) ready.sound refl refl refl)
-        (λ here. absurd (cc));
+              (record {
+                underway = underway;
+                few = omega arith;
+                leave = λ other differs. (tt, (loose other, tt));
+              }) (failed_texts intent (payment_error.Declined decline) status.RequiresPaymentMethod texts) refl
+              (has_begun_origin _ failed (each_begun state batch.rows underway.continues.follow).1.0, tt)
+              (decline_keeps state account object intent (before (ruling.Declined decline)) (version new batch ∷ []) ready.sound refl refl refl)
+              (λ here. absurd (cc));
         }
     ruled ruling.Challenge =
         let batch = before ruling.Challenge in
@@ -291,8 +289,8 @@ settled_enters state entry how row intent_row attempt intent ready stood there =
           few = omega arith;
           shown = shows_both attempt_state.Challenged status.RequiresAction;
           enters = ruled_enters state intent_row intent new event.IntentRequiresAction batch ready there (begun ruling.Challenge) texts refl (before_it batch)
-        (laws_held state.rows (batch.rows ++ version new batch ∷ []) refl ready.sound.laws)
-        (λ here. absurd (cc));
+              (laws_held state.rows (batch.rows ++ version new batch ∷ []) refl ready.sound.laws)
+              (λ here. absurd (cc));
         }
 
 -- ---- a ruling on an attempt

@@ -12,10 +12,10 @@ pub step-requires-clause-closing : goal.step-requires-clause-closing
 step-requires-clause-closing g c = closes_known c.fetch-fetched.result c.fetch-fetched.ensures.fetches
 
 pub returns-in-Some : goal.returns-in-Some
-returns-in-Some g c = alone c.step.new.held (follows _ _ c.fetch-fetched.result _ c.loop-i-test.true c.loop-i.invariant c.fetch-fetched.ensures.fetches c.in-Some.ensures.steps)
+returns-in-Some g c = alone c.args.book.now c.step.new.held (follows _ _ c.fetch-fetched.result _ c.loop-i-test.true c.loop-i.invariant c.fetch-fetched.ensures.fetches c.in-Some.ensures.steps)
 
 pub loop-i-preserved : goal.loop-i-preserved
 loop-i-preserved g c = follows _ _ c.fetch-fetched.result _ c.loop-i-test.true c.loop-i.invariant c.fetch-fetched.ensures.fetches c.in-None.ensures.steps
 
 pub returns : goal.returns
-returns g c = alone c.loop-i.book (stops_limit c.loop-i.i c.closed.result c.closed.ensures c.loop-i-test.false (omega arith) c.loop-i.invariant)
+returns g c = alone c.args.book.now c.loop-i.book (stops_limit c.loop-i.i c.closed.result c.closed.ensures c.loop-i-test.false (omega arith) c.loop-i.invariant)
