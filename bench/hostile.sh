@@ -9,9 +9,13 @@
 # Ends with 1 where an honest client wasn't answered, where the summary is another, or where memory grew.
 set -eu
 cd "$(dirname "$0")/.."
+if ! command -v python3 >/dev/null 2>&1; then
+    echo "bench/hostile.sh: there is no python3 here, so nothing was tried (Debian: apt-get install python3)" >&2
+    exit 0
+fi
 ./payhost stdio </dev/null
 exec python3 - crates/payhost/out/payhost "${1:-10000}" <<'PYTHON'
-import re, socket, struct, subprocess, sys, threading, time
+import atexit, re, socket, struct, subprocess, sys, threading, time
 
 program, connects = sys.argv[1], int(sys.argv[2])
 PORT, WORKERS = 12191, 4
@@ -76,22 +80,38 @@ failed = []
 def honest(name, rounds=20):
     """A client that means well: its requests are answered, one after another."""
     global calls
-    peer = connect()
-    for i in range(rounds):
-        peer.sendall(CREATE if i % 2 == 0 else RETRIEVE)
-        got = reply_of(peer)
-        with lock:
-            calls += 1
-        if got is None or got[0] != 200:
-            failed.append("%s: request %d got %r" % (name, i, got))
-            break
-    peer.close()
+    try:
+        peer = connect()
+        for i in range(rounds):
+            peer.sendall(CREATE if i % 2 == 0 else RETRIEVE)
+            got = reply_of(peer)
+            with lock:
+                calls += 1
+            if got is None or got[0] != 200:
+                failed.append("%s: request %d got %r" % (name, i, got))
+                break
+        peer.close()
+    except OSError as why:
+        failed.append("%s: an honest client wasn't served: %s" % (name, why))
+
+
+def meanwhile(name, work):
+    """Does this work beside what follows, until the thread that is answered is joined."""
+    def tried():
+        try:
+            work()
+        except OSError as why:
+            failed.append("%s: %s" % (name, why))
+
+    thread = threading.Thread(target=tried)
+    thread.start()
+    return thread
 
 
 def beside(name, hostile):
     """A hostile peer, and two honest clients while it is there."""
-    begun = time.time()
     peer = hostile()
+    begun = time.time()
     clients = [threading.Thread(target=honest, args=(name,)) for _ in range(2)]
     for client in clients:
         client.start()
@@ -104,6 +124,8 @@ def beside(name, hostile):
 each = (connects + 200) // WORKERS
 child = subprocess.Popen([program, "serve", "--port", str(PORT), "--workers", str(WORKERS), "--connections", str(each)],
                          stdout=subprocess.PIPE, stderr=subprocess.PIPE, text=True)
+# However this script ends, the server ends with it.
+atexit.register(child.kill)
 said = child.stderr.readline()
 if "listening" not in said:
     sys.exit(said)
@@ -174,21 +196,24 @@ def byte_by_byte():
 
 def endless_head():
     peer = connect()
+    got = None
+    # The refusal may be lost, since what wasn't read of the head makes the close a reset.
     try:
         peer.sendall(b"GET / HTTP/1.1\r\n" + b"X: a\r\n" * 20000)
+        got = reply_of(peer)
     except OSError:
         pass
-    got = reply_of(peer)
     if got is not None and got[0] != 431:
         failed.append("a head without end got %r" % (got,))
     return peer
 
 
-def reset_in_body():
-    peer = connect()
-    peer.sendall(CREATE[:-10])
-    time.sleep(0.2)
-    reset(peer)
+def resets_in_body():
+    for _ in range(20):
+        peer = connect()
+        peer.sendall(CREATE[:-10])
+        time.sleep(0.05)
+        reset(peer)
 
 
 def nothing_said():
@@ -201,20 +226,24 @@ before = memory(child)
 dripping = beside("a byte a second", byte_by_byte)
 reset(dripping)
 beside("heads without end", endless_head).close()
-for _ in range(20):
-    reset_in_body()
-beside("resets in the middle of a body", reset_in_body)
-beside("%d connects that say nothing" % connects, nothing_said)
-after = memory(child)
+name = "resets in the middle of a body"
+beside(name, lambda: meanwhile(name, resets_in_body)).join()
+name = "%d connects that say nothing" % connects
+beside(name, lambda: meanwhile(name, nothing_said)).join()
+behind = memory(child)
 deaf = beside("one that never reads", never_reads)
+during = memory(child)
 drain(deaf)
 honest("after all")
-print("memory: %d KiB at first, %d KiB behind all peers but the last" % (before, after))
-if after > before + 4096:
+print("memory: %d KiB at first, %d KiB behind all peers but the last, %d KiB while that one didn't read" % (before, behind, during))
+if max(behind, during) > before + 4096:
     failed.append("memory grew")
 
 # The server ends when each of its workers has served its connections, and then tells its summary.
+last = time.time() + 60
 while child.poll() is None:
+    if time.time() > last:
+        sys.exit("the server took %d connections and hasn't ended" % opened)
     if opened < each * WORKERS:
         try:
             connect(1).close()
