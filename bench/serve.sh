@@ -6,6 +6,9 @@
 #
 #   bench/serve.sh [SECONDS]     how long each measure takes (3)
 #
+# Ends with 1 where payhost answered anything but 200 to a request, or ended: its book has room for 200,000 entries, which a long
+# measure fills.
+#
 # A worker serves one connection at a time, up to 1,000 requests of it, and the others wait until one is free: so at 16 and 64
 # connections payhost is measured with 4 workers, and beside that with 16, the most that it takes (docs/PROFILE.md).
 set -eu
@@ -52,11 +55,16 @@ wait_for() {
     exit 1
 }
 
-# Runs wrk and prints: requests a second, latency at the 50th and the 99th percentile, and replies that weren't 2xx.
+# Runs wrk and prints: requests a second, latency at the 50th and the 99th percentile, replies that weren't 2xx, connects, reads and
+# writes that failed, and requests that took more than wrk's 2 seconds.
 measure() {
-    wrk -t "$2" -c "$3" -d "${seconds}s" --latency -s "$room/$4.lua" "http://127.0.0.1:$1" >"$room/out" 2>&1
+    wrk -t "$2" -c "$3" -d "${seconds}s" --latency -s "$room/$4.lua" "http://127.0.0.1:$1" >"$room/out" 2>&1 || {
+        cat "$room/out" >&2
+        exit 1
+    }
     awk '/Requests\/sec/ { rate = $2 } $1 == "50%" { half = $2 } $1 == "99%" { most = $2 } /Non-2xx/ { other = $NF }
-        END { printf "%s %s %s %s", rate, half, most, other + 0 }' "$room/out"
+        /Socket errors/ { failed = $4 + $6 + $8; late = $10 }
+        END { printf "%s %s %s %d %d %d", rate, half, most, other, failed, late }' "$room/out"
 }
 
 memory() {
@@ -73,6 +81,23 @@ start_payhost() {
     done
     cat "$room/said" >&2
     exit 1
+}
+
+# Ends payhost behind a measure. It has to be there still, and to have answered each request by 2xx.
+end_payhost() {
+    if ! kill "$payhost" 2>/dev/null; then
+        echo "payhost ended while it was measured:" >&2
+        cat "$room/said" "$room/summary" >&2
+        exit 1
+    fi
+    wait "$payhost" 2>/dev/null || true
+    pids=${pids% "$payhost"}
+    # shellcheck disable=SC2086
+    set -- $1
+    if [ "$4" -gt 0 ]; then
+        echo "$4 replies of payhost weren't 2xx" >&2
+        exit 1
+    fi
 }
 
 # Sends one create, and waits for its reply.
@@ -143,7 +168,7 @@ else
     echo "$python has no aiohttp: that handler is left out (Debian: apt-get install python3-aiohttp)" >&2
 fi
 
-printf '%-10s %-9s %-12s %10s %9s %9s %6s %10s\n' server requests connections 'a second' '50 %' '99 %' 'other' 'peak KiB'
+printf '%-10s %-9s %-12s %10s %9s %9s %6s %6s %6s %10s\n' server requests connections 'a second' '50 %' '99 %' other failed late 'peak KiB'
 for connections in 1 16 64; do
     threads=1
     [ "$connections" -gt 1 ] && threads=2
@@ -156,15 +181,14 @@ for connections in 1 16 64; do
             create_one
             line=$(measure 12181 "$threads" "$connections" "$requests")
             # shellcheck disable=SC2086
-            printf '%-10s %-9s %-12s %10s %9s %9s %6s %10s\n' "payhost:$count" "$requests" "$connections" $line "$(memory "$payhost")"
-            kill "$payhost"
-            wait "$payhost" 2>/dev/null || true
+            printf '%-10s %-9s %-12s %10s %9s %9s %6s %6s %6s %10s\n' "payhost:$count" "$requests" "$connections" $line "$(memory "$payhost")"
+            end_payhost "$line"
         done
         for other in $others; do
             if [ "$other" = go ]; then port=12182 pid=$go; else port=12183 pid=$aiohttp; fi
             line=$(measure "$port" "$threads" "$connections" "$requests")
             # shellcheck disable=SC2086
-            printf '%-10s %-9s %-12s %10s %9s %9s %6s %10s\n' "$other" "$requests" "$connections" $line "$(memory "$pid")"
+            printf '%-10s %-9s %-12s %10s %9s %9s %6s %6s %6s %10s\n' "$other" "$requests" "$connections" $line "$(memory "$pid")"
         done
     done
 done
