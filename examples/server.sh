@@ -6,11 +6,14 @@
 PORT=${PORT:-12111}
 
 start_server() {
+    # The first start may have to build the program, which takes a while and says so.
+    ./payhost stdio </dev/null
     said=$(mktemp)
     ./payhost serve --port "$PORT" "$@" >/dev/null 2>"$said" &
     server=$!
     trap stop_server EXIT
-    # The first start may have to build the program first.
+    trap 'exit 130' INT
+    trap 'exit 143' TERM
     while ! grep -q 'listening on' "$said"; do
         if ! kill -0 "$server" 2>/dev/null; then
             cat "$said" >&2
