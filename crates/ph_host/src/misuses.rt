@@ -91,7 +91,9 @@ impl fmt::Display for Misuse<'_> {
     fn fmt<W: fmt::Write>(&self, f: &mut fmt::Formatter<W>) -> fmt::Result {
         match self {
             Misuse::NoCommand => write!(f, "a command is wanted"),
-            Misuse::NoSuchCommand(word) => write!(f, "payhost has no command `{}` today", text(word)),
+            Misuse::NoSuchCommand(word) => {
+                write!(f, "payhost has no command `{}` today", text(word))
+            }
             Misuse::NoSuchOption(name) => write!(f, "the command has no option `{}`", text(name)),
             Misuse::NoValue(name) => write!(f, "no value stands behind `{}`", text(name)),
             Misuse::NotTaken(name, value) => write!(
