@@ -13,8 +13,12 @@ if ! command -v python3 >/dev/null 2>&1; then
     echo "bench/hostile.sh: there is no python3 here, so nothing was tried (Debian: apt-get install python3)" >&2
     exit 0
 fi
-./payhost stdio </dev/null
-exec python3 - crates/payhost/out/payhost "${1:-10000}" <<'PYTHON'
+# The program is $PAYHOST, or the one that ./payhost builds where that is needed.
+if [ -z "${PAYHOST:-}" ]; then
+    ./payhost stdio </dev/null
+    PAYHOST=crates/payhost/out/payhost
+fi
+exec python3 - "$PAYHOST" "${1:-10000}" <<'PYTHON'
 import atexit, re, socket, struct, subprocess, sys, threading, time
 
 program, connects = sys.argv[1], int(sys.argv[2])

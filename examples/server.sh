@@ -2,18 +2,20 @@
 #
 #   start_server WORDS ..   starts `payhost serve --port $PORT WORDS ..`, and waits until it listens
 #   stop_server             stops it
+#
+# The program is $PAYHOST, or ./payhost, which builds it where that is needed.
 
+PAYHOST=${PAYHOST:-./payhost}
 PORT=${PORT:-12111}
 
 start_server() {
     # The first start may have to build the program, which takes a while and says so.
-    ./payhost stdio </dev/null
+    "$PAYHOST" stdio </dev/null
     said=$(mktemp)
-    ./payhost serve --port "$PORT" "$@" >/dev/null 2>"$said" &
+    "$PAYHOST" serve --port "$PORT" "$@" >/dev/null 2>"$said" &
     server=$!
     trap stop_server EXIT
-    trap 'exit 130' INT
-    trap 'exit 143' TERM
+    trap 'exit 1' HUP INT TERM
     while ! grep -q 'listening on' "$said"; do
         if ! kill -0 "$server" 2>/dev/null; then
             cat "$said" >&2

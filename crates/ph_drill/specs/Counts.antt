@@ -1,6 +1,6 @@
 -- How many there are.
-use Rattle.std.specs.Prelude.{ℕ, Bool, true, false, ◌==◌, ◌&&◌, List, length, Option, Some, None}
-use Rattle.std.specs.List.{filter}
+use Rattle.std.specs.Prelude.{ℕ, Bool, true, false, ◌==◌, ◌&&◌, List, Option, Some, None}
+use Rattle.std.specs.List.{count_by}
 use Rattle.ph_base.specs.declared.ids.Kind.{Kind}
 use Rattle.ph_base.specs.declared.ids.Kind.TheVariants as kind
 use Rattle.ph_items.specs.Items.{attempt_in}
@@ -24,7 +24,7 @@ is_call (deed.Tick moment) = false
 
 -- how many entries of a history are calls
 abbrev pub calls_in : List Entry → ℕ
-calls_in history = length (filter (λ entry. is_call entry.deed) history)
+calls_in history = count_by (λ entry. is_call entry.deed) history
 
 -- the attempt was approved
 abbrev pub is_approved : AttemptState → Bool
@@ -51,4 +51,4 @@ is_counted counted.Events row = is_object kind.Event row
 
 -- how many of these there are among rows
 abbrev pub count_in : Counted → List Row → ℕ
-count_in counted rows = length (filter (is_counted counted) rows)
+count_in counted rows = count_by (is_counted counted) rows

@@ -46,8 +46,8 @@ fn write_balances<V: View, K: Sink>(view: &V, sink: &mut K) -> Result<(), WriteF
 fn write_account<V: View, K: Sink>(view: &V, account: u64, sink: &mut K) -> Result<(), WriteFailed>
     ensures { Writes (K.sink sink.old) (K.sink sink.new) (account_lines (V.state view.now) account) result }
 {
-    for currency in Currency::ALL {
-        write_currency(view, account, currency, sink)?;
+    for currency in &Currency::ALL {
+        write_currency(view, account, *currency, sink)?;
     }
     Ok(())
 }
