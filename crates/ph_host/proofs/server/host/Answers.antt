@@ -1,25 +1,33 @@
 use Rattle.std.proofs.Common.{◌≡◌, ◌≢◌, sym, ap, ◌∙◌}
 use Rattle.std.specs.Prelude.{IsSomeAnd}
 use Rattle.ph_host.specs.declared.workers.WorkerEnd.TheVariants as worker
-use Rattle.ph_host.proofs.HostLemmas.{not_idle, some_and, some_if, worked}
+use Rattle.ph_host.proofs.HostLemmas.{not_idle, some_and, some_gives, some_if, worked}
 use Rattle.ph_host.proofs.PairLemmas.{all_after_zip, all_of_zip, zip_thrice}
 use Rattle.ph_host.proofs.server.host.Goals as goal
 
 pub serve_all-requires-clause-passes : goal.serve_all-requires-clause-passes
-serve_all-requires-clause-passes g c =
+serve_all-requires-clause-passes g c = λ κs lives.
     all_of_zip _ (λ w. IsSomeAnd w.pass (λ pass. pass.lock ≡ c.in-Ok.made.0)) _ _
     (λ x y r. some_and y.pass (λ p is. is.lock) r.4) c.split_each.ensures.passes
 
 pub join_each-requires-clause-passes : goal.join_each-requires-clause-passes
 join_each-requires-clause-passes g c =
     all_after_zip _ (λ w. IsSomeAnd w.pass (λ pass. pass.lock ≡ c.in-Ok.made.0)) (λ w. IsSomeAnd w.pass (λ pass. pass.lock ≡ c.in-Ok.made.0)) _ _
-    (λ x y is s. let both = some_if x.pass is s.1 in some_and y.pass (λ p h. h.0.lock ∙ both.1.0) both.1.1)
+    (λ x y is s. let both = some_if x.pass is s.1 in some_and y.pass (λ p did. did.same.lock ∙ both.1.0) both.1.1)
     (all_of_zip _ (λ w. IsSomeAnd w.pass (λ pass. pass.lock ≡ c.in-Ok.made.0)) _ _
         (λ x y r. some_and y.pass (λ p is. is.lock) r.4) c.split_each.ensures.passes)
     c.serve_all.ensures.served
 
 pub status-requires : goal.status-requires
-status-requires g c = record { ended = ? }
+status-requires g c = record {
+  ended = all_after_zip _ (λ w. w.end ≢ worker.Idle) (λ w. w.end ≢ worker.Idle) _ _ (λ x y ended r idle. ended (sym r.3 ∙ idle))
+      (all_after_zip _ (λ w. IsSomeAnd w.pass (λ pass. pass.lock ≡ c.in-Ok.made.0)) (λ w. w.end ≢ worker.Idle) _ _
+          (λ x y is s. let both = some_if x.pass is s.1 in some_gives y.pass (λ p did. not_idle did.served) both.1.1)
+          (all_of_zip _ (λ w. IsSomeAnd w.pass (λ pass. pass.lock ≡ c.in-Ok.made.0)) _ _
+              (λ x y r. some_and y.pass (λ p is. is.lock) r.4) c.split_each.ensures.passes)
+          c.serve_all.ensures.served)
+      c.join_each.ensures.joined;
+}
 
 pub returns-in-Ok-write_summary-clause-workers : goal.returns-in-Ok-write_summary-clause-workers
 returns-in-Ok-write_summary-clause-workers g c =
