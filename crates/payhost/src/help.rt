@@ -25,14 +25,13 @@ pub fn tell(rt: &HostRuntime, misuse: &Misuse<'_>, words: &[Bytes]) {
     };
 }
 
-// Whether the words ask for help.
+// Whether the words ask for help: one of them does.
 fn asks_for_help(words: &[Bytes]) -> bool {
-    match words {
-        [word] => {
-            word.as_slice() == b"--help".as_slice()
-                || word.as_slice() == b"-h".as_slice()
-                || word.as_slice() == b"help".as_slice()
+    for word in words {
+        match word.as_slice() {
+            b"--help" | b"-h" | b"help" => return true,
+            _ => {}
         }
-        _ => false,
     }
+    false
 }

@@ -83,3 +83,8 @@ all_of_zip R Q [] [] gives zip = All-nil Q
 all_of_zip R Q [] (y ∷ ys) gives zip = absurd zip
 all_of_zip R Q (x ∷ xs) [] gives zip = absurd zip
 all_of_zip R Q (x ∷ xs) (y ∷ ys) gives zip = All-cons Q y ys (gives x y zip.0) (all_of_zip R Q xs ys gives zip.1)
+
+-- what holds of everything holds of each of a list
+pub all_any : {A : Type 0} (P : A → Type 0) (xs : List A) → ((x : A) → P x) → All P xs
+all_any P [] any = All-nil P
+all_any P (x ∷ xs) any = All-cons P x xs (any x) (all_any P xs any)

@@ -34,6 +34,7 @@ pub fn serve_gate<R: Wait, O: Hosted, G: Gate, A: Acquirer, P: Patience>(
         (record { known = known_by O.setup O.plain O.mark pass.new; link = A.link link.new; counts = P.counts patience.new })
         (G.gate gate.old) (G.gate gate.new) }
 {
+    // It shows that the pass is one of its lock's, which is so too where no connection comes.
     let _ = pass.caller();
     let mut sessions: u64 = 0;
     let mut broken: u64 = 0;

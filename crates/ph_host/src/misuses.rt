@@ -63,7 +63,7 @@ fn option_misuse(command: Command, words: &[Bytes]) -> Option<Misuse<'_>>
 {
     match words {
         [] => None,
-        [name] => Some(Misuse::NoValue(name.as_slice())),
+        [name] => Some(alone(command, name.as_slice())),
         [name, value, behind @ ..] => {
             if is_option(command, name.as_slice(), value.as_slice(), behind) {
                 option_misuse(command, behind)
@@ -73,6 +73,15 @@ fn option_misuse(command: Command, words: &[Bytes]) -> Option<Misuse<'_>>
                 Some(not_taken(command, name.as_slice(), value.as_slice()))
             }
         }
+    }
+}
+
+// What is wrong with a last word that should have a value behind it.
+fn alone(command: Command, name: &[u8]) -> Misuse<'_> {
+    if is_named(command, name) {
+        Misuse::NoValue(name)
+    } else {
+        Misuse::NoSuchOption(name)
     }
 }
 

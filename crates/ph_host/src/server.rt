@@ -3,8 +3,11 @@ ghost use Rattle.std.specs.Prelude.{◌≡◌, ◌≢◌, ℕ, [], All, None, So
 ghost use Rattle.std.specs.List.{AllZip};
 ghost use Rattle.ph_lock.specs.Histories.{StartsWith};
 ghost use Rattle.ph_lock.specs.Passes.{IsPass, SamePass};
+ghost use Rattle.ph_book.specs.History.{doings_of};
 ghost use Rattle.ph_book.specs.Hosts.{IsLawful};
+ghost use Rattle.ph_book.specs.Legal.{IsLegal};
 ghost use Rattle.ph_conn.specs.Fronts.{known_by};
+ghost use Rattle.ph_conn.specs.Laws.{AuthorisedOnce, HoldLaws};
 ghost use Rattle.ph_drill.specs.Summary.{summary_of};
 ghost use Rattle.ph_host.specs.Plans.{WritesUsage, is_host_of, plan_of};
 ghost use Rattle.ph_host.specs.Runs.{new_book};
@@ -50,6 +53,8 @@ const LIMIT: u32 = 1_000;
 /// | 9 | the history had no room for a request |
 ///
 /// Of several workers, the first one whose gate hasn't ended says which of 6, 7 and 9 it is.
+///
+/// Each worker is one that hasn't begun: it has no pass and has shown none.
 pub fn run_host<
     R: Threads + Wait + Sync,
     G: Gate<Conn: Send> + Send,
@@ -78,6 +83,11 @@ pub fn run_host<
     ensures workers { IfSome result.1 (λ book. (book.setup ≡ setup_of words.now)
         × AllZip (λ old new. (new.pass ≡ None) × IsSomeAnd new.last (λ shown. StartsWith book.history shown.front
         × WorksBy (setup_of words.now) shown new.end (A.link old.link) (A.link new.link) (P.counts old.patience) (P.counts new.patience) (G.gate old.gate) (G.gate new.gate))) workers.old workers.new) }
+
+    // The book's history is legal, so the laws of attempts hold of it. Where each attempt that is settled there is settled with the
+    // decision that a worker's link tells, no confirmation was authorised twice among that link's asks.
+    ensures laws { IfSome result.1 (λ book. IsLegal book.setup book.history × HoldLaws (doings_of book.setup book.history)) }
+    ensures authorised_once { IfSome result.1 (λ book. All (λ worker. AuthorisedOnce (doings_of book.setup book.history) (A.link worker.link)) workers.new) }
 
     // The summary of its history was written, and the status is that of the workers' ends; or a write of it failed.
     ensures summary { IfSome result.1 (λ book. Tells (map (λ worker. worker.end) workers.new) result.0 (summary_of book.setup book.history) (K.sink output.old) (K.sink output.new)) }
@@ -114,6 +124,8 @@ fn host<
     ensures workers { IfSome result.1 (λ closed. (closed.setup ≡ book.setup)
         × AllZip (λ old new. (new.pass ≡ None) × IsSomeAnd new.last (λ shown. StartsWith closed.history shown.front
         × WorksBy book.setup shown new.end (A.link old.link) (A.link new.link) (P.counts old.patience) (P.counts new.patience) (G.gate old.gate) (G.gate new.gate))) workers.old workers.new) }
+    ensures laws { IfSome result.1 (λ closed. IsLegal closed.setup closed.history × HoldLaws (doings_of closed.setup closed.history)) }
+    ensures authorised_once { IfSome result.1 (λ closed. All (λ worker. AuthorisedOnce (doings_of closed.setup closed.history) (A.link worker.link)) workers.new) }
     ensures summary { IfSome result.1 (λ closed. Tells (map (λ worker. worker.end) workers.new) result.0 (summary_of closed.setup closed.history) (K.sink output.old) (K.sink output.new)) }
 {
     let (lock, mut first) = match Lock::new(alloc, book) {

@@ -25,16 +25,20 @@ pub enum WorkerEnd {
     Full,
 }
 
-/// One worker of a server: where its connections come from, its link to the acquirer, and how long it waits for a ruling.
-/// Its pass is its own while it serves; before and after, it has none.
+/// One worker of a server. Its pass is its own while it serves; before and after, it has none.
 #[derive(Drop)]
 pub struct Worker<G, A, P, O: Object> {
+    /// Where its connections come from.
     pub gate: G,
+    /// Its link to the acquirer.
     pub link: A,
+    /// How long a session of its waits for a ruling.
     pub patience: P,
+    /// Its pass, while it serves.
     pub pass: Option<Pass<O>>,
     /// What its pass showed last.
     pub last: Option<PassView<O>>,
+    /// How it ended.
     pub end: WorkerEnd,
 }
 

@@ -1,8 +1,9 @@
 use Rattle.std.proofs.Common.{◌≡◌, ◌≢◌, sym, ap, ◌∙◌}
 use Rattle.std.specs.Prelude.{IsSomeAnd}
 use Rattle.ph_host.specs.declared.workers.WorkerEnd.TheVariants as worker
+use Rattle.ph_conn.proofs.LawLemmas.{authorised_once, laws_hold}
 use Rattle.ph_host.proofs.HostLemmas.{not_idle, some_and, some_gives, some_if, worked}
-use Rattle.ph_host.proofs.PairLemmas.{all_after_zip, all_of_zip, zip_thrice}
+use Rattle.ph_host.proofs.PairLemmas.{all_after_zip, all_any, all_of_zip, zip_thrice}
 use Rattle.ph_host.proofs.server.host.Goals as goal
 
 pub serve_all-requires-clause-passes : goal.serve_all-requires-clause-passes
@@ -66,3 +67,23 @@ returns-in-Err-write_summary-clause-workers g c =
             (ap g.P.Patience.counts r.2) (ap g.P.Patience.counts (sym t.2))
             (ap g.G.Gate.gate r.0) (ap g.G.Gate.gate (sym t.0))))
         c.split_each.ensures.passes c.serve_all.ensures.served c.join_each.ensures.joined)
+
+pub returns-in-Ok-write_summary-clause-laws : goal.returns-in-Ok-write_summary-clause-laws
+returns-in-Ok-write_summary-clause-laws g c =
+    let lawful = c.close-book.ensures.lawful in
+    (lawful.legal, laws_hold _ _ lawful.few lawful.legal)
+
+pub returns-in-Ok-write_summary-clause-authorised_once : goal.returns-in-Ok-write_summary-clause-authorised_once
+returns-in-Ok-write_summary-clause-authorised_once g c =
+    let lawful = c.close-book.ensures.lawful in
+    all_any _ _ (λ w. authorised_once _ (g.A.Acquirer.link w.link) (laws_hold _ _ lawful.few lawful.legal).all_but_the_last_were_challenged)
+
+pub returns-in-Err-write_summary-clause-laws : goal.returns-in-Err-write_summary-clause-laws
+returns-in-Err-write_summary-clause-laws g c =
+    let lawful = c.close-book.ensures.lawful in
+    (lawful.legal, laws_hold _ _ lawful.few lawful.legal)
+
+pub returns-in-Err-write_summary-clause-authorised_once : goal.returns-in-Err-write_summary-clause-authorised_once
+returns-in-Err-write_summary-clause-authorised_once g c =
+    let lawful = c.close-book.ensures.lawful in
+    all_any _ _ (λ w. authorised_once _ (g.A.Acquirer.link w.link) (laws_hold _ _ lawful.few lawful.legal).all_but_the_last_were_challenged)
