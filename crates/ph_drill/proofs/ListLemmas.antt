@@ -1,7 +1,7 @@
 -- Texts that are written piece by piece, one for each element of a list.
 use Rattle.std.specs.Prelude.{slice_get, cond}
 use Rattle.std.specs.List.{flat_map, filter}
-use Rattle.std.proofs.Common.{◌≡◌, ℕ, ◌+◌, Bool, true, false, List, [], ◌∷◌, ◌++◌, Option, Some, take, drop, get_or, refl, sym, ap, subst, ◌∙◌}
+use Rattle.std.proofs.Common.{◌≡◌, ℕ, ◌+◌, Bool, true, false, List, [], ◌∷◌, ◌++◌, Some, take, drop, get_or, refl, sym, ap, subst, ◌∙◌}
 use Rattle.std.proofs.lemmas.Grind.{flat_map-append}
 use Rattle.std.proofs.lemmas.List.{take_more, append-nil, take-append-drop}
 use Rattle.std.proofs.lemmas.Option.{slice_get_within, get_or_from_slice_get}
@@ -46,9 +46,10 @@ front_of_pieces {old} {between} {new} piece xs i x here before last =
 pub filtered_pieces : {X : Type 0} (test : X → Bool) (piece : X → List ℕ) (xs : List X)
     → flat_map piece (filter test xs) ≡ flat_map (λ x. cond (test x) (piece x) []) xs
 filtered_pieces test piece [] = refl
-filtered_pieces {X} test piece (x ∷ xs) = by_case (test x)
+filtered_pieces {X} test piece (x ∷ xs) = by_case (test x) (filtered_pieces test piece xs)
   where
-    by_case : (passes : Bool) → flat_map piece (cond passes (x ∷ filter test xs) (filter test xs))
+    by_case : (passes : Bool) → flat_map piece (filter test xs) ≡ flat_map (λ (y : X). cond (test y) (piece y) []) xs
+        → flat_map piece (cond passes (x ∷ filter test xs) (filter test xs))
         ≡ cond passes (piece x) [] ++ flat_map (λ (y : X). cond (test y) (piece y) []) xs
-    by_case true = ap (λ more. piece x ++ more) (filtered_pieces test piece xs)
-    by_case false = filtered_pieces test piece xs
+    by_case true rest = ap (λ more. piece x ++ more) rest
+    by_case false rest = rest
