@@ -9,8 +9,12 @@
 # Ends with 1 where an honest client wasn't answered, where the summary is another, or where memory grew.
 set -eu
 cd "$(dirname "$0")/.."
-./payhost stdio </dev/null
-exec python3 - crates/payhost/out/payhost "${1:-10000}" <<'PYTHON'
+# The program is $PAYHOST, or the one that ./payhost builds where that is needed.
+if [ -z "${PAYHOST:-}" ]; then
+    ./payhost stdio </dev/null
+    PAYHOST=crates/payhost/out/payhost
+fi
+exec python3 - "$PAYHOST" "${1:-10000}" <<'PYTHON'
 import re, socket, struct, subprocess, sys, threading, time
 
 program, connects = sys.argv[1], int(sys.argv[2])

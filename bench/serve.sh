@@ -16,7 +16,11 @@ if ! command -v wrk >/dev/null 2>&1; then
     exit 0
 fi
 python=${PYTHON:-/usr/bin/python3}
-./payhost stdio </dev/null
+# The program is $PAYHOST, or the one that ./payhost builds where that is needed.
+if [ -z "${PAYHOST:-}" ]; then
+    ./payhost stdio </dev/null
+    PAYHOST=crates/payhost/out/payhost
+fi
 room=$(mktemp -d)
 pids=
 cleanup() {
@@ -64,7 +68,7 @@ memory() {
 }
 
 start_payhost() {
-    crates/payhost/out/payhost serve --port 12181 --workers "$1" >"$room/summary" 2>"$room/said" &
+    "$PAYHOST" serve --port 12181 --workers "$1" >"$room/summary" 2>"$room/said" &
     payhost=$!
     pids="$pids $payhost"
     for _ in $(seq 100); do

@@ -2,14 +2,18 @@
 #
 #   start_server WORDS ..   starts `payhost serve --port $PORT WORDS ..`, and waits until it listens
 #   stop_server             stops it
+#
+# The program is $PAYHOST, or ./payhost, which builds it where that is needed.
 
+PAYHOST=${PAYHOST:-./payhost}
 PORT=${PORT:-12111}
 
 start_server() {
     said=$(mktemp)
-    ./payhost serve --port "$PORT" "$@" >/dev/null 2>"$said" &
+    "$PAYHOST" serve --port "$PORT" "$@" >/dev/null 2>"$said" &
     server=$!
     trap stop_server EXIT
+    trap 'exit 1' HUP INT TERM
     # The first start may have to build the program first.
     while ! grep -q 'listening on' "$said"; do
         if ! kill -0 "$server" 2>/dev/null; then

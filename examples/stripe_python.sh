@@ -11,5 +11,6 @@ if ! "$python" -c 'import stripe' 2>/dev/null; then
     exit 0
 fi
 . examples/server.sh
-start_server --workers 1
+# The library keeps its connection open, which holds a worker; the call of payhost's own goes over a second one.
+start_server --workers 2
 "$python" examples/stripe_python.py "http://127.0.0.1:$PORT"

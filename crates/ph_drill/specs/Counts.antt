@@ -1,6 +1,6 @@
 -- How many there are.
 use Rattle.std.specs.Prelude.{ℕ, Bool, true, false, ◌==◌, ◌&&◌, List, length, Option, Some, None}
-use Rattle.std.specs.List.{filter}
+use Rattle.std.specs.List.{count_by}
 use Rattle.ph_base.specs.declared.ids.Kind.{Kind}
 use Rattle.ph_base.specs.declared.ids.Kind.TheVariants as kind
 use Rattle.ph_items.specs.Items.{attempt_in}
@@ -12,8 +12,11 @@ use Rattle.ph_rows.specs.declared.rows.Row.{Row}
 use Rattle.ph_book.specs.declared.acts.Deed.{Deed}
 use Rattle.ph_book.specs.declared.acts.Deed.TheVariants as deed
 use Rattle.ph_book.specs.declared.acts.Entry.{Entry}
+use Rattle.ph_book.specs.declared.setup.Setup.{Setup}
+use Rattle.ph_book.specs.History.{rows_of}
 use Rattle.ph_drill.specs.declared.counts.Counted.{Counted}
 use Rattle.ph_drill.specs.declared.counts.Counted.TheVariants as counted
+use Rattle.ph_drill.specs.declared.counts.Counts.{Counts}
 
 -- the deed is a call
 abbrev pub is_call : Deed → Bool
@@ -24,7 +27,7 @@ is_call (deed.Tick moment) = false
 
 -- how many entries of a history are calls
 abbrev pub calls_in : List Entry → ℕ
-calls_in history = length (filter (λ entry. is_call entry.deed) history)
+calls_in history = count_by (λ entry. is_call entry.deed) history
 
 -- the attempt was approved
 abbrev pub is_approved : AttemptState → Bool
@@ -51,4 +54,15 @@ is_counted counted.Events row = is_object kind.Event row
 
 -- how many of these there are among rows
 abbrev pub count_in : Counted → List Row → ℕ
-count_in counted rows = length (filter (is_counted counted) rows)
+count_in counted rows = count_by (is_counted counted) rows
+
+-- what there is in a history: entries, calls, attempts, those that were approved, rows, events
+abbrev pub counts_of : Setup → List Entry → Counts
+counts_of setup history = record {
+  entries = length history;
+  calls = calls_in history;
+  attempts = count_in counted.Attempts (rows_of setup history);
+  approved = count_in counted.Approvals (rows_of setup history);
+  rows = length (rows_of setup history);
+  events = count_in counted.Events (rows_of setup history);
+}

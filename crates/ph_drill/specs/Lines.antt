@@ -1,5 +1,5 @@
 -- Lines of words that a blank parts.
-use Rattle.std.specs.Prelude.{ℕ, ⊤, ℤ, List, [], ◌∷◌, ◌++◌, codes, decimal, Result, Ok, Err}
+use Rattle.std.specs.Prelude.{ℕ, ⊤, ℤ, List, ◌++◌, codes, decimal, Result, Ok, Err}
 use Rattle.std.specs.Fmt.{signed_decimal}
 use Rattle.ph_io.specs.Told.{SinkState}
 use Rattle.ph_io.specs.Writes.{Takes, TakesFront}

@@ -1,25 +1,57 @@
-//! How many there are: of calls in a history, of attempts, approvals and events among rows.
+//! How many there are: of entries and calls in a history, of attempts, approvals and events among its rows.
 ghost use Rattle.std.specs.Prelude.{◌≡◌};
-ghost use Rattle.ph_drill.specs.Counts.{calls_in, count_in, is_approved, is_call, is_counted, is_object};
+ghost use Rattle.ph_drill.specs.Counts.{calls_in, count_in, counts_of, is_approved, is_call, is_counted, is_object};
 
 use ph_base::Kind;
-use ph_book::{Deed, Entry};
+use ph_book::{Book, Deed, Entry};
 use ph_items::{Attempt, AttemptState, kind_number};
 use ph_rows::{Row, View};
 
-/// What is counted among rows.
-#[derive(Clone, Copy, Debug, PartialEq, Eq)]
-pub enum Counted {
+/// How many there are in a history.
+#[derive(Clone, Copy, Debug)]
+pub struct Counts {
+    /// Entries.
+    pub entries: u64,
+    /// Entries that are calls.
+    pub calls: u64,
     /// Attempts.
-    Attempts,
-    /// Attempts that were approved, each of them once.
-    Approvals,
+    pub attempts: u64,
+    /// Attempts that were approved.
+    pub approved: u64,
+    /// Rows.
+    pub rows: u64,
     /// Events.
+    pub events: u64,
+}
+
+/// Counts what there is in a book's history.
+pub fn count_all(book: &Book) -> Counts
+    ensures { result ≡ counts_of book.now.setup book.now.history }
+{
+    let history = book.history();
+    Counts {
+        entries: history.len() as u64,
+        calls: calls(history),
+        attempts: count(book, Counted::Attempts),
+        approved: count(book, Counted::Approvals),
+        rows: book.count(),
+        events: count(book, Counted::Events),
+    }
+}
+
+// What is counted among rows.
+#[derive(Clone, Copy)]
+enum Counted {
+    // attempts
+    Attempts,
+    // attempts that were approved, each of them once
+    Approvals,
+    // events
     Events,
 }
 
-/// How many entries of a history are calls.
-pub fn calls(history: &[Entry]) -> u64
+// How many entries of a history are calls.
+fn calls(history: &[Entry]) -> u64
     ensures { result ≡ calls_in history.now }
 {
     let mut count = 0;
@@ -41,8 +73,8 @@ fn is_call(entry: &Entry) -> bool
     }
 }
 
-/// How many of these there are among the rows of a view.
-pub fn count<V: View>(view: &V, counted: Counted) -> u64
+// How many of these there are among the rows of a view.
+fn count<V: View>(view: &V, counted: Counted) -> u64
     ensures { result ≡ count_in counted (V.state view.now).rows }
 {
     let mut count = 0;

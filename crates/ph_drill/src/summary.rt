@@ -1,9 +1,9 @@
 //! The summary of a run.
 ghost use Rattle.std.specs.Prelude.{◌≡◌};
 ghost use Rattle.ph_drill.specs.Lines.{Writes};
-ghost use Rattle.ph_drill.specs.Summary.{account_lines, balance_lines, currency_lines, summary_of};
+ghost use Rattle.ph_drill.specs.Summary.{account_lines, balance_lines, count_lines, currency_lines, summary_of};
 
-use crate::counts::{Counted, calls, count, is_object};
+use crate::counts::{Counts, count_all, is_object};
 use crate::lines::{write_balance, write_count};
 use ph_base::Kind;
 use ph_book::Book;
@@ -17,14 +17,20 @@ use ph_views::{has_txns, printed_id};
 pub fn write_summary<K: Sink>(book: &Book, sink: &mut K) -> Result<(), WriteFailed>
     ensures { Writes (K.sink sink.old) (K.sink sink.new) (summary_of book.now.setup book.now.history) result }
 {
-    let history = book.history();
-    write_count(sink, b"entries", history.len() as u64)?;
-    write_count(sink, b"calls", calls(history))?;
-    write_count(sink, b"attempts", count(book, Counted::Attempts))?;
-    write_count(sink, b"approved", count(book, Counted::Approvals))?;
-    write_count(sink, b"rows", book.count())?;
-    write_count(sink, b"events", count(book, Counted::Events))?;
+    write_counts(&count_all(book), sink)?;
     write_balances(book, sink)
+}
+
+// Writes the counts.
+fn write_counts<K: Sink>(counts: &Counts, sink: &mut K) -> Result<(), WriteFailed>
+    ensures { Writes (K.sink sink.old) (K.sink sink.new) (count_lines counts.now) result }
+{
+    write_count(sink, b"entries", counts.entries)?;
+    write_count(sink, b"calls", counts.calls)?;
+    write_count(sink, b"attempts", counts.attempts)?;
+    write_count(sink, b"approved", counts.approved)?;
+    write_count(sink, b"rows", counts.rows)?;
+    write_count(sink, b"events", counts.events)
 }
 
 // Writes the balances of each account.
@@ -46,8 +52,8 @@ fn write_balances<V: View, K: Sink>(view: &V, sink: &mut K) -> Result<(), WriteF
 fn write_account<V: View, K: Sink>(view: &V, account: u64, sink: &mut K) -> Result<(), WriteFailed>
     ensures { Writes (K.sink sink.old) (K.sink sink.new) (account_lines (V.state view.now) account) result }
 {
-    for currency in Currency::ALL {
-        write_currency(view, account, currency, sink)?;
+    for currency in &Currency::ALL {
+        write_currency(view, account, *currency, sink)?;
     }
     Ok(())
 }
