@@ -62,7 +62,7 @@ same_served : (limit : ℕ) (end0 end1 : WorkerEnd) (m0 m1 n0 n1 : Means) (g0 g1
 same_served limit end0 end1 m0 m1 n0 n1 g0 g1 h0 h1 e a b c d served =
     subst (λ g. Served limit end1 n0 n1 h0 g) d
     (subst (λ g. Served limit end1 n0 n1 g g1) c
-        (subst (λ m. Served limit end1 n0 m g0 g1) b (subst (λ m. Served limit end1 m m1 g0 g1) a (subst (λ x. Served limit x m0 m1 g0 g1) e served))))
+    (subst (λ m. Served limit end1 n0 m g0 g1) b (subst (λ m. Served limit end1 m m1 g0 g1) a (subst (λ x. Served limit x m0 m1 g0 g1) e served))))
 
 -- what the pass was that it was given, what it did with it, and what it showed last
 pub worked :
@@ -78,11 +78,13 @@ worked lock setup joined closed given served last end0 end1 l0 m0 m1 l1 p0 q0 q1
     let after = some_both served before.1.1 took in
     let same = after.1.0.same in
     let known = first_known setup before.0 after.0 before.1.0.base same.caller before.1.0.front before.1.0.mine in
-    subst (λ o. IsSomeAnd o (λ shown. StartsWith closed shown.front × WorksBy setup shown end1 l0 l1 p0 p1 g0 g1)) (sym after.1.1.0)
-    (begins_twice closed joined after.0.front whole after.1.1.1, record {
-      base = same.base ∙ before.1.0.base;
-      pass = after.1.0.pass;
-      served = same_served connection_limit end0 end1 _ _ _ _ h0 h1 g0 g1 ends
-          (λ i. record { known = known i; link = a i; counts = c i })
-          (λ i. record { known = known_by_pass after.0; link = b i; counts = d i }) e f after.1.0.served;
-    })
+    subst (λ o. IsSomeAnd o (λ shown. StartsWith closed shown.front × WorksBy setup shown end1 l0 l1 p0 p1 g0 g1)) (sym after.1.1.0) (
+      begins_twice closed joined after.0.front whole after.1.1.1,
+      record {
+        base = same.base ∙ before.1.0.base;
+        pass = after.1.0.pass;
+        served = same_served connection_limit end0 end1 _ _ _ _ h0 h1 g0 g1 ends
+            (λ i. record { known = known i; link = a i; counts = c i })
+            (λ i. record { known = known_by_pass after.0; link = b i; counts = d i }) e f after.1.0.served;
+      },
+    )

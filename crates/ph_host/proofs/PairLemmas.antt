@@ -36,8 +36,8 @@ changed_more R xs ys i y e so_far inside now = record {
   long = length-set ys i y ∙ so_far.long;
   changed = λ k d below. ⊎_elim
       (λ same. subst (λ j. R (get_or xs j d) (get_or (set ys i y) j d)) (sym same)
-          (subst (R (get_or xs i d)) (sym (get_or-set_same ys i y d inside))
-              (subst (λ z. R z y) (get_or_default ys i e d inside ∙ so_far.others i d (omega arith)) now)))
+      (subst (R (get_or xs i d)) (sym (get_or-set_same ys i y d inside))
+      (subst (λ z. R z y) (get_or_default ys i e d inside ∙ so_far.others i d (omega arith)) now)))
       (λ other. subst (R (get_or xs k d)) (sym (get_or-set_other ys i k y d other)) (so_far.changed k d (omega (arith, below, other))))
       (cases_eq k i);
   others = λ k d above. get_or-set_other ys i k y d (let other : k ≢ i = omega (arith, above) in other) ∙ so_far.others k d (omega (arith, above));

@@ -23,8 +23,19 @@ module _ (O Act Answer Query Seen Entry Deed Base : RattleType) (g : Ghosts O.De
 pub worker_sends : (G A P O Act Answer Query Seen Entry Deed Base : RattleType) (g : Ghosts O.Denot Act.Denot Answer.Denot Query.Denot Seen.Denot Entry.Denot Deed.Denot Base.Denot)
     → IsSend G → IsSend A → IsSend P → IsSend O → IsSend (the_row G A P O Act Answer Query Seen Entry Deed Base g)
 worker_sends G A P O Act Answer Query Seen Entry Deed Base g gate link patience object =
-    declared_send (the_type G A P O Act Answer Query Seen Entry Deed Base g)
-    (as_row_send (row_field G) gate, (as_row_send (row_field A) link, (as_row_send (row_field P) patience,
-    (as_row_send (option.the_field (passes.the_row O Act Answer Query Seen Entry Deed Base g)) (search (sendable, crosses, pass.the_send, object) depth 20),
-    (as_row_send (option.the_field (view.the_row O Act Answer Query Seen Entry Deed Base g)) (search (sendable, crosses, view_sends) depth 20),
-    (search (sendable, crosses) depth 20, tt))))))
+    declared_send (the_type G A P O Act Answer Query Seen Entry Deed Base g) (
+      as_row_send (row_field G) gate,
+      (
+        as_row_send (row_field A) link,
+        (
+          as_row_send (row_field P) patience,
+          (
+            as_row_send (option.the_field (passes.the_row O Act Answer Query Seen Entry Deed Base g)) (search (sendable, crosses, pass.the_send, object) depth 20),
+            (
+              as_row_send (option.the_field (view.the_row O Act Answer Query Seen Entry Deed Base g)) (search (sendable, crosses, view_sends) depth 20),
+              (search (sendable, crosses) depth 20, tt),
+            ),
+          ),
+        ),
+      ),
+    )

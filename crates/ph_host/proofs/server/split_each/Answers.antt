@@ -9,9 +9,13 @@ loop-worker-preserved g c =
     let made = c.split_one.ensures in
     record {
       same = made.same ∙ c.loop-worker.invariant.same;
-      changed = changed_more _ _ _ _ _ c.worker-item.result c.loop-worker.invariant.changed (omega arith)
-          (made.gate, made.link, made.patience, made.last,
-          subst (λ f. IsSomeAnd c.split_one.new.worker.pass (IsNewPass c.args.lock.now f.base f.front)) c.loop-worker.invariant.same made.pass);
+      changed = changed_more _ _ _ _ _ c.worker-item.result c.loop-worker.invariant.changed (omega arith) (
+        made.gate,
+        made.link,
+        made.patience,
+        made.last,
+        subst (λ f. IsSomeAnd c.split_one.new.worker.pass (IsNewPass c.args.lock.now f.base f.front)) c.loop-worker.invariant.same made.pass,
+      );
     }
 
 pub returns-clause-passes : goal.returns-clause-passes
