@@ -1,5 +1,5 @@
 -- What a worker did, from the pass that it was given to the one that was taken back.
-use Rattle.std.proofs.Common.{◌≡◌, ◌≢◌, ℕ, List, [], ◌∷◌, ◌++◌, Option, Some, None, refl, sym, ap, subst, ◌∙◌, append_assoc}
+use Rattle.std.proofs.Common.{◌≡◌, ◌≢◌, ℕ, List, [], ◌++◌, Option, Some, None, sym, ap, subst, ◌∙◌, append_assoc}
 use Rattle.std.specs.Prelude.{IfSome, IsSomeAnd, map}
 use Rattle.atomic_table.specs.Seated.{TableId}
 use Rattle.ph_io.specs.Gates.{GateState}

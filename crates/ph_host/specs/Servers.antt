@@ -14,7 +14,6 @@ use Rattle.ph_book.specs.declared.setup.Setup.{Setup}
 use Rattle.ph_book.specs.Callers.{caller_of}
 use Rattle.ph_book.specs.Hosts.{IsLawful}
 use Rattle.ph_conn.specs.Fronts.{Known, known_by}
-use Rattle.ph_conn.specs.Means.{Means}
 use Rattle.ph_host.specs.declared.workers.WorkerEnd.{WorkerEnd}
 use Rattle.ph_host.specs.declared.workers.WorkerEnd.TheVariants as worker
 use Rattle.ph_host.specs.Visits.{Served}

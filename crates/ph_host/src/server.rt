@@ -1,19 +1,16 @@
 //! The top call of a server.
-ghost use Rattle.std.specs.Prelude.{◌≡◌, ◌≢◌, ℕ, [], All, None, Some, IfNone, IfSome, IsSomeAnd, false, true, length, map};
+ghost use Rattle.std.specs.Prelude.{◌≡◌, ◌≢◌, [], All, None, Some, IfNone, IfSome, IsSomeAnd, false, true, length, map};
 ghost use Rattle.std.specs.List.{AllZip};
 ghost use Rattle.ph_lock.specs.Histories.{StartsWith};
-ghost use Rattle.ph_lock.specs.Passes.{IsPass, SamePass};
+ghost use Rattle.ph_lock.specs.Passes.{SamePass};
 ghost use Rattle.ph_book.specs.History.{doings_of};
 ghost use Rattle.ph_book.specs.Hosts.{IsLawful};
 ghost use Rattle.ph_book.specs.Legal.{IsLegal};
-ghost use Rattle.ph_conn.specs.Fronts.{known_by};
 ghost use Rattle.ph_conn.specs.Laws.{AuthorisedOnce, HoldLaws};
 ghost use Rattle.ph_drill.specs.Summary.{summary_of};
 ghost use Rattle.ph_host.specs.Plans.{WritesUsage, is_host_of, plan_of};
-ghost use Rattle.ph_host.specs.Runs.{new_book};
-ghost use Rattle.ph_host.specs.Servers.{IsNewPass, ServedBy, Tells, WorksBy, connection_limit, status_of_ends};
+ghost use Rattle.ph_host.specs.Servers.{IsNewPass, ServedBy, Tells, WorksBy, status_of_ends};
 ghost use Rattle.ph_host.specs.Setups.{setup_of};
-ghost use Rattle.ph_host.specs.Visits.{Served};
 ghost use Rattle.ph_host.specs.declared.workers.WorkerEnd.TheVariants as WorkerEnd;
 
 use crate::gates::serve_gate;

@@ -1,4 +1,4 @@
-use Rattle.std.proofs.Common.{sym, subst, ◌∙◌, arith}
+use Rattle.std.proofs.Common.{◌∙◌, arith}
 use Rattle.ph_host.proofs.HostLemmas.{begins_twice, some_and}
 use Rattle.ph_host.proofs.PairLemmas.{changed_all, changed_more, changed_weaker}
 use Rattle.ph_host.proofs.server.join_each.Goals as goal

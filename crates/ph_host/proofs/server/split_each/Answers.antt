@@ -1,7 +1,7 @@
-use Rattle.std.proofs.Common.{sym, subst, ◌∙◌, arith}
+use Rattle.std.proofs.Common.{subst, ◌∙◌, arith}
 use Rattle.std.specs.Prelude.{IsSomeAnd}
 use Rattle.ph_host.specs.Servers.{IsNewPass}
-use Rattle.ph_host.proofs.PairLemmas.{changed_all, changed_more, changed_none}
+use Rattle.ph_host.proofs.PairLemmas.{changed_all, changed_more}
 use Rattle.ph_host.proofs.server.split_each.Goals as goal
 
 pub loop-worker-preserved : goal.loop-worker-preserved
