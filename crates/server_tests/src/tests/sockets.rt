@@ -27,12 +27,16 @@ fn ask(stream: &mut TcpStream, bytes: &[u8], room: &mut [u8]) -> io::Result<usiz
     Ok(read)
 }
 
-// The reply to a create has the length that each has, and is one up to the id, which differs, and from behind it.
+// Whether this is the reply to a create, whatever the number of its payment intent, which stands in its secret and as its id.
 fn is_intent(reply: &[u8; 575]) -> bool {
-    reply[..72] == INTENT[..72] && reply.ends_with(b"\"transfer_group\":null}")
+    reply[..235] == INTENT[..235]
+        && reply[235..251] == reply[334..350]
+        && reply[251..334] == INTENT[251..334]
+        && reply[350..] == INTENT[350..]
 }
 
-// One client: so many creates over one connection. Answers how many were answered by a payment intent.
+// One client: so many creates over one connection. Answers how many were answered by a payment intent of a number above
+// that of the one before it.
 fn client<R: Net<Listener = TcpListener, Stream = TcpStream>>(
     rt: &R,
     port: u16,
@@ -40,12 +44,15 @@ fn client<R: Net<Listener = TcpListener, Stream = TcpStream>>(
 ) -> io::Result<u32> {
     let mut stream = TcpStream::connect(rt, ("127.0.0.1", port))?;
     let mut good = 0u32;
+    let mut last = [b'0'; 16];
     for _ in 0..requests {
         let mut room = [0u8; 575];
         let n = ask(&mut stream, CREATE, &mut room)?;
-        if n == 575 && is_intent(&room) {
+        let number = &room[334..350];
+        if n == 575 && is_intent(&room) && number > last.as_slice() {
             good = good.saturating_add(1);
         }
+        last.copy_from_slice(number);
     }
     Ok(good)
 }
