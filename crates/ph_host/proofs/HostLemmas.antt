@@ -1,19 +1,19 @@
 -- What a worker did, from the pass that it was given to the one that was taken back.
-use Rattle.std.proofs.Common.{◌≡◌, ◌≢◌, ℕ, List, [], ◌∷◌, ◌++◌, Option, Some, None, refl, sym, ap, subst, ◌∙◌, append_assoc}
+use Rattle.std.proofs.Common.{◌≡◌, ◌≢◌, ℕ, List, [], ◌++◌, Option, Some, None, sym, ap, subst, ◌∙◌, append_assoc}
 use Rattle.std.specs.Prelude.{IfSome, IsSomeAnd, map}
 use Rattle.atomic_table.specs.Seated.{TableId}
 use Rattle.ph_io.specs.Gates.{GateState}
 use Rattle.ph_bank.specs.Links.{Link}
 use Rattle.ph_bank.specs.Patiences.{Granted}
 use Rattle.ph_lock.specs.Histories.{StartsWith}
-use Rattle.ph_lock.specs.Passes.{Shown, IsPass, SamePass}
+use Rattle.ph_lock.specs.Passes.{Shown}
 use Rattle.ph_book.specs.declared.acts.Entry.{Entry}
 use Rattle.ph_book.specs.declared.hosted.Kept.TheVariants as kept
 use Rattle.ph_book.specs.declared.setup.Setup.{Setup}
 use Rattle.ph_book.specs.Callers.{caller_of}
 use Rattle.ph_book.specs.Hosts.{IsLawful}
 use Rattle.ph_conn.specs.Means.{Means}
-use Rattle.ph_host.specs.Servers.{IsNewPass, WorksBy, connection_limit, known_at_first, known_by_pass}
+use Rattle.ph_host.specs.Servers.{IsNewPass, ServedBy, WorksBy, connection_limit, known_at_first, known_by_pass}
 use Rattle.ph_host.specs.Visits.{EndsAs, Served}
 use Rattle.ph_host.specs.declared.workers.WorkerEnd.{WorkerEnd}
 use Rattle.ph_host.specs.declared.workers.WorkerEnd.TheVariants as worker
@@ -32,6 +32,11 @@ module _ {X : Type 0} where
   pub some_if : {P Q : X → Type 0} (o : Option X) → IsSomeAnd o P → IfSome o Q → (x : X) × (P x × Q x)
   some_if None is also = absurd is
   some_if (Some x) is also = (x, (is, also))
+
+  -- what follows from its fact, where it is there
+  pub some_gives : {P : X → Type 0} {Y : Type 0} (o : Option X) → ((x : X) → P x → Y) → IsSomeAnd o P → Y
+  some_gives None gives is = absurd is
+  some_gives (Some x) gives is = gives x is
 
 -- the history begins with what a front of it begins with
 pub begins_twice : {E : Type 0} (whole front seen : List E) → StartsWith whole front → StartsWith front seen → StartsWith whole seen
@@ -57,28 +62,29 @@ same_served : (limit : ℕ) (end0 end1 : WorkerEnd) (m0 m1 n0 n1 : Means) (g0 g1
 same_served limit end0 end1 m0 m1 n0 n1 g0 g1 h0 h1 e a b c d served =
     subst (λ g. Served limit end1 n0 n1 h0 g) d
     (subst (λ g. Served limit end1 n0 n1 g g1) c
-        (subst (λ m. Served limit end1 n0 m g0 g1) b (subst (λ m. Served limit end1 m m1 g0 g1) a (subst (λ x. Served limit x m0 m1 g0 g1) e served))))
+    (subst (λ m. Served limit end1 n0 m g0 g1) b (subst (λ m. Served limit end1 m m1 g0 g1) a (subst (λ x. Served limit x m0 m1 g0 g1) e served))))
 
 -- what the pass was that it was given, what it did with it, and what it showed last
 pub worked :
     (lock : TableId) (setup : Setup) (joined closed : List Entry) (given served last : Option (Shown Entry Setup)) (end0 end1 : WorkerEnd)
     (l0 m0 m1 l1 : Link) (p0 q0 q1 p1 : Granted) (g0 h0 h1 g1 : GateState)
     → IsSomeAnd given (IsNewPass lock setup [])
-    → IfSome given (λ before. IsSomeAnd served (λ after. SamePass before after × IsPass caller_of IsLawful after
-        × Served connection_limit end0 (record { known = known_by_pass before; link = m0; counts = q0 }) (record { known = known_by_pass after; link = m1; counts = q1 }) h0 h1))
+    → IfSome given (λ before. IsSomeAnd served (λ after. ServedBy caller_of IsLawful (λ base. base) (λ entry. entry) (λ entry. kept.Yes) before after end0 m0 m1 q0 q1 h0 h1))
     → IsSomeAnd served (λ pass. (last ≡ Some pass) × StartsWith joined pass.front)
     → StartsWith closed joined → end0 ≡ end1 → m0 ≡ l0 → m1 ≡ l1 → q0 ≡ p0 → q1 ≡ p1 → h0 ≡ g0 → h1 ≡ g1
     → IsSomeAnd last (λ shown. StartsWith closed shown.front × WorksBy setup shown end1 l0 l1 p0 p1 g0 g1)
 worked lock setup joined closed given served last end0 end1 l0 m0 m1 l1 p0 q0 q1 p1 g0 h0 h1 g1 new did took whole ends a b c d e f =
     let before = some_if given new did in
     let after = some_both served before.1.1 took in
-    let same = after.1.0.0 in
+    let same = after.1.0.same in
     let known = first_known setup before.0 after.0 before.1.0.base same.caller before.1.0.front before.1.0.mine in
-    subst (λ o. IsSomeAnd o (λ shown. StartsWith closed shown.front × WorksBy setup shown end1 l0 l1 p0 p1 g0 g1)) (sym after.1.1.0)
-    (begins_twice closed joined after.0.front whole after.1.1.1, record {
-      base = same.base ∙ before.1.0.base;
-      pass = after.1.0.1;
-      served = same_served connection_limit end0 end1 _ _ _ _ h0 h1 g0 g1 ends
-          (λ i. record { known = known i; link = a i; counts = c i })
-          (λ i. record { known = known_by_pass after.0; link = b i; counts = d i }) e f after.1.0.2;
-    })
+    subst (λ o. IsSomeAnd o (λ shown. StartsWith closed shown.front × WorksBy setup shown end1 l0 l1 p0 p1 g0 g1)) (sym after.1.1.0) (
+      begins_twice closed joined after.0.front whole after.1.1.1,
+      record {
+        base = same.base ∙ before.1.0.base;
+        pass = after.1.0.pass;
+        served = same_served connection_limit end0 end1 _ _ _ _ h0 h1 g0 g1 ends
+            (λ i. record { known = known i; link = a i; counts = c i })
+            (λ i. record { known = known_by_pass after.0; link = b i; counts = d i }) e f after.1.0.served;
+      },
+    )

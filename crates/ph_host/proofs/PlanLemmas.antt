@@ -1,7 +1,7 @@
 -- Which plans are something that payhost does.
 use Rattle.std.proofs.Common.{◌≡◌, ℕ, Bool, true, false, List, Option, Some, None, refl}
 use Rattle.std.specs.Option.{is_some}
-use Rattle.ph_host.specs.Plans.{host_if, host_plan, is_planned, once_if}
+use Rattle.ph_host.specs.Plans.{host_plan, is_planned, once_if}
 
 pub planned_once : (b : Bool) (patience : ℕ) → is_planned (once_if b patience) ≡ b
 planned_once true patience = refl

@@ -1,12 +1,12 @@
 -- How the connections of a worker follow each other.
-use Rattle.std.proofs.Common.{◌≡◌, ℕ, suc, ◌+◌, Bool, true, false, List, [], ◌∷◌, ◌++◌, length, Option, None, Some, refl, sym, ap, subst, ◌∙◌, arith}
+use Rattle.std.proofs.Common.{◌≡◌, ℕ, suc, ◌+◌, Bool, true, false, List, [], ◌∷◌, ◌++◌, length, None, Some, refl, sym, ap, subst, ◌∙◌, arith}
 use Rattle.ph_io.specs.Gates.{GateState, AllBack, Gives, GateEnds, GateFails, TakesBack}
 use Rattle.ph_io.specs.declared.end.End.{End}
 use Rattle.ph_io.specs.declared.end.End.TheVariants as end
 use Rattle.ph_io.proofs.GateLemmas.{all_back_none, all_back_more, all_back_ends, all_back_fails}
 use Rattle.ph_bank.specs.Patiences.{next_count, counted_on}
 use Rattle.ph_conn.specs.Means.{Means}
-use Rattle.ph_host.specs.Visits.{Visit, IsVisit, AreVisits, AllGoOn, LastEnds, record_of, records_of, one_if, counted_if, broken_in, is_broken, stop_of, end_of, EndsDone, EndsFailed, EndsEarly, EndsAs, Served}
+use Rattle.ph_host.specs.Visits.{Visit, IsVisit, AreVisits, AllGoOn, record_of, records_of, one_if, counted_if, broken_in, is_broken, stop_of, end_of, EndsEarly, EndsAs, Served}
 use Rattle.ph_host.specs.declared.workers.WorkerEnd.{WorkerEnd}
 use Rattle.ph_host.specs.declared.workers.WorkerEnd.TheVariants as worker
 

@@ -6,14 +6,14 @@ use Rattle.ph_io.specs.Writes.{Takes, TakesFront}
 use Rattle.ph_bank.specs.Links.{Link}
 use Rattle.ph_bank.specs.Patiences.{Granted}
 use Rattle.atomic_table.specs.Seated.{TableId}
-use Rattle.ph_lock.specs.Passes.{Shown, IsPass}
+use Rattle.ph_lock.specs.Passes.{Shown, IsPass, SamePass}
 use Rattle.ph_book.specs.declared.acts.Entry.{Entry}
+use Rattle.ph_book.specs.declared.hosted.Kept.{Kept}
 use Rattle.ph_book.specs.declared.hosted.Kept.TheVariants as kept
 use Rattle.ph_book.specs.declared.setup.Setup.{Setup}
 use Rattle.ph_book.specs.Callers.{caller_of}
 use Rattle.ph_book.specs.Hosts.{IsLawful}
 use Rattle.ph_conn.specs.Fronts.{Known, known_by}
-use Rattle.ph_conn.specs.Means.{Means}
 use Rattle.ph_host.specs.declared.workers.WorkerEnd.{WorkerEnd}
 use Rattle.ph_host.specs.declared.workers.WorkerEnd.TheVariants as worker
 use Rattle.ph_host.specs.Visits.{Served}
@@ -28,6 +28,17 @@ pub record IsNewPass (its_lock : TableId) (setup : Setup) (known : List Entry) (
   pub base : pass.base ≡ setup
   pub front : pass.front ≡ known
   pub mine : pass.mine ≡ []
+
+module _ {E Base : Type 0} where
+  -- a worker served its gate by one pass, from what it was to what it became: this is how it ended
+  pub record ServedBy (by : E → ℕ) (lawful : Base → List E → Type 0) (setup : Base → Setup) (plain : E → Entry) (mark : E → Kept) (before after : Shown E Base) (end : WorkerEnd)
+      (link0 link1 : Link) (counts0 counts1 : Granted) (gate0 gate1 : GateState) : Type 0 where
+    pub same : SamePass before after
+    pub pass : IsPass by lawful after
+    pub served : Served connection_limit end
+        (record { known = known_by setup plain mark before; link = link0; counts = counts0 })
+        (record { known = known_by setup plain mark after; link = link1; counts = counts1 })
+        gate0 gate1
 
 -- what is known by a pass of a book's lock
 abbrev pub known_by_pass : Shown Entry Setup → Known

@@ -1,10 +1,11 @@
 //! What is wrong with words that ask for nothing that payhost does.
 ghost use Rattle.std.specs.Prelude.{◌≡◌, is_none, is_some};
 ghost use Rattle.ph_host.specs.Options.{are_options};
-ghost use Rattle.ph_host.specs.Plans.{is_planned, plan_of, port_of};
+ghost use Rattle.ph_host.specs.Plans.{host_if, is_planned, plan_of, port_of};
+ghost use Rattle.ph_host.specs.declared.commands.Command.TheVariants.{Serve};
 
 use crate::commands::Command;
-use crate::options::{given, is_named, takes};
+use crate::options::{is_named, is_option, takes};
 use crate::planning::port;
 use ph_base::Bytes;
 use std::fmt;
@@ -29,7 +30,7 @@ pub enum Misuse<'w> {
 }
 
 /// What is wrong with words. None exactly where they ask for something that payhost does.
-#[tactic(auto, using(crate::proofs::PlanLemmas::planned_once, crate::proofs::PlanLemmas::planned_host))]
+#[tactic(auto, using(crate::proofs::PlanLemmas::planned_once))]
 pub fn find_misuse(words: &[Bytes]) -> Option<Misuse<'_>>
     ensures { is_none result ≡ is_planned (plan_of words.now) }
 {
@@ -39,17 +40,24 @@ pub fn find_misuse(words: &[Bytes]) -> Option<Misuse<'_>>
             option_misuse(Command::Stdio, options)
         }
         [word, options @ ..] if word.as_slice() == b"serve".as_slice() => {
-            match option_misuse(Command::Serve, options) {
-                Some(misuse) => Some(misuse),
-                None => port_misuse(words),
-            }
+            serve_misuse(words, options)
         }
         [word, ..] => Some(Misuse::NoSuchCommand(word.as_slice())),
     }
 }
 
+// What is wrong with the words of a server, of which these are the options.
+#[tactic(auto, using(crate::proofs::PlanLemmas::planned_host))]
+fn serve_misuse<'w>(words: &'w [Bytes], options: &'w [Bytes]) -> Option<Misuse<'w>>
+    ensures { is_none result ≡ is_planned (host_if (are_options Serve options.now) words.now (port_of words.now)) }
+{
+    match option_misuse(Command::Serve, options) {
+        Some(misuse) => Some(misuse),
+        None => port_misuse(words),
+    }
+}
+
 // What is wrong with the options of a command.
-#[tactic(auto, unfolding(crate::specs::Options::is_option))]
 fn option_misuse(command: Command, words: &[Bytes]) -> Option<Misuse<'_>>
     ensures { is_none result ≡ are_options command words.now }
 {
@@ -57,12 +65,12 @@ fn option_misuse(command: Command, words: &[Bytes]) -> Option<Misuse<'_>>
         [] => None,
         [name] => Some(Misuse::NoValue(name.as_slice())),
         [name, value, behind @ ..] => {
-            if !takes(command, name.as_slice(), value.as_slice()) {
-                Some(not_taken(command, name.as_slice(), value.as_slice()))
-            } else if given(name.as_slice(), behind).is_some() {
+            if is_option(command, name.as_slice(), value.as_slice(), behind) {
+                option_misuse(command, behind)
+            } else if takes(command, name.as_slice(), value.as_slice()) {
                 Some(Misuse::Twice(name.as_slice()))
             } else {
-                option_misuse(command, behind)
+                Some(not_taken(command, name.as_slice(), value.as_slice()))
             }
         }
     }

@@ -31,9 +31,9 @@ pub fn are_options(command: Command, words: &[Bytes]) -> bool
     }
 }
 
-// Whether the option of this name takes the value, and isn't given again among the words behind it.
+/// Whether the option of this name takes the value, and isn't given again among the words behind it.
 #[tactic(auto, unfolding(crate::specs::Options::is_option))]
-fn is_option(command: Command, name: &[u8], value: &[u8], behind: &[Bytes]) -> bool
+pub fn is_option(command: Command, name: &[u8], value: &[u8], behind: &[Bytes]) -> bool
     ensures { result ≡ is_option command name.now value.now behind.now }
 {
     takes(command, name, value) && given(name, behind).is_none()

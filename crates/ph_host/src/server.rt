@@ -1,16 +1,13 @@
 //! The top call of a server.
-ghost use Rattle.std.specs.Prelude.{◌≡◌, ◌≢◌, ℕ, [], All, None, Some, IfNone, IfSome, IsSomeAnd, false, true, length, map};
+ghost use Rattle.std.specs.Prelude.{◌≡◌, ◌≢◌, [], All, None, Some, IfNone, IfSome, IsSomeAnd, false, true, length, map};
 ghost use Rattle.std.specs.List.{AllZip};
 ghost use Rattle.ph_lock.specs.Histories.{StartsWith};
-ghost use Rattle.ph_lock.specs.Passes.{IsPass, SamePass};
+ghost use Rattle.ph_lock.specs.Passes.{SamePass};
 ghost use Rattle.ph_book.specs.Hosts.{IsLawful};
-ghost use Rattle.ph_conn.specs.Fronts.{known_by};
 ghost use Rattle.ph_drill.specs.Summary.{summary_of};
 ghost use Rattle.ph_host.specs.Plans.{WritesUsage, is_host_of, plan_of};
-ghost use Rattle.ph_host.specs.Runs.{new_book};
-ghost use Rattle.ph_host.specs.Servers.{IsNewPass, Tells, WorksBy, connection_limit, status_of_ends};
+ghost use Rattle.ph_host.specs.Servers.{IsNewPass, ServedBy, Tells, WorksBy, status_of_ends};
 ghost use Rattle.ph_host.specs.Setups.{setup_of};
-ghost use Rattle.ph_host.specs.Visits.{Served};
 ghost use Rattle.ph_host.specs.declared.workers.WorkerEnd.TheVariants as WorkerEnd;
 
 use crate::gates::serve_gate;
@@ -142,12 +139,8 @@ fn split_each<R: Wait, G, A, P>(
     ensures passes { AllZip (λ old new. (new.gate ≡ old.gate) × (new.link ≡ old.link) × (new.patience ≡ old.patience) × (new.last ≡ old.last)
         × IsSomeAnd new.pass (IsNewPass lock.now first.old.base first.old.front)) workers.old workers.new }
 {
-    match workers {
-        [] => {}
-        [worker, others @ ..] => {
-            split_one(rt, lock, first, worker);
-            split_each(rt, lock, first, others);
-        }
+    for worker in workers.iter_mut() {
+        split_one(rt, lock, first, worker);
     }
 }
 
@@ -185,20 +178,17 @@ where
     O::Base: Send,
     requires passes { All (λ worker. IsSomeAnd worker.pass (λ pass. pass.lock ≡ lock.now)) workers.old }
     ensures served { AllZip (λ old new. (new.last ≡ old.last) × IfSome old.pass (λ before. IsSomeAnd new.pass (λ after.
-        SamePass before after × IsPass O.by O.lawful after
-        × Served connection_limit new.end
-        (record { known = known_by O.setup O.plain O.mark before; link = A.link old.link; counts = P.counts old.patience })
-        (record { known = known_by O.setup O.plain O.mark after; link = A.link new.link; counts = P.counts new.patience })
-        (G.gate old.gate) (G.gate new.gate)))) workers.old workers.new }
+        ServedBy O.by O.lawful O.setup O.plain O.mark before after new.end (A.link old.link) (A.link new.link) (P.counts old.patience) (P.counts new.patience) (G.gate old.gate) (G.gate new.gate)))) workers.old workers.new }
 {
     let threads = workers.len();
     if threads > 0 {
-        for_each_mut(
-            rt,
-            workers,
-            threads,
-            &|_, worker| { serve(rt, alloc, lock, worker) },
-        );
+        let work = |_: usize, worker: &mut Worker<G, A, P, O>|
+            requires { IsSomeAnd worker.now.pass (λ pass. pass.lock ≡ lock.now) }
+            ensures last { worker.exit.now.last ≡ worker.entry.now.last }
+            ensures served { IfSome worker.entry.now.pass (λ before. IsSomeAnd worker.exit.now.pass (λ after.
+                ServedBy O.by O.lawful O.setup O.plain O.mark before after worker.exit.now.end (A.link worker.entry.now.link) (A.link worker.exit.now.link) (P.counts worker.entry.now.patience) (P.counts worker.exit.now.patience) (G.gate worker.entry.now.gate) (G.gate worker.exit.now.gate))) }
+        { serve(rt, alloc, lock, worker) };
+        for_each_mut(rt, workers, threads, &work);
     }
 }
 
@@ -212,11 +202,7 @@ fn serve<R: Wait, O: Hosted, G: Gate, A: Acquirer, P: Patience>(
     requires pass { IsSomeAnd worker.old.pass (λ pass. pass.lock ≡ lock.now) }
     ensures last { worker.new.last ≡ worker.old.last }
     ensures served { IfSome worker.old.pass (λ before. IsSomeAnd worker.new.pass (λ after.
-        SamePass before after × IsPass O.by O.lawful after
-        × Served connection_limit worker.new.end
-        (record { known = known_by O.setup O.plain O.mark before; link = A.link worker.old.link; counts = P.counts worker.old.patience })
-        (record { known = known_by O.setup O.plain O.mark after; link = A.link worker.new.link; counts = P.counts worker.new.patience })
-        (G.gate worker.old.gate) (G.gate worker.new.gate))) }
+        ServedBy O.by O.lawful O.setup O.plain O.mark before after worker.new.end (A.link worker.old.link) (A.link worker.new.link) (P.counts worker.old.patience) (P.counts worker.new.patience) (G.gate worker.old.gate) (G.gate worker.new.gate))) }
 {
     let Some(pass) = &mut worker.pass else {
         unreachable!()
@@ -247,12 +233,8 @@ fn join_each<G, A, P>(
     ensures joined { AllZip (λ old new. (new.gate ≡ old.gate) × (new.link ≡ old.link) × (new.patience ≡ old.patience) × (new.end ≡ old.end)
         × (new.pass ≡ None) × IsSomeAnd old.pass (λ pass. (new.last ≡ Some pass) × StartsWith first.new.front pass.front)) workers.old workers.new }
 {
-    match workers {
-        [] => {}
-        [worker, others @ ..] => {
-            join_one(lock, first, worker);
-            join_each(lock, first, others);
-        }
+    for worker in workers.iter_mut() {
+        join_one(lock, first, worker);
     }
 }
 

@@ -38,7 +38,7 @@ loop-preserved g c =
           serving_as _ _ _ _ _ _ _ _ _ c.counted-sessions.ensures
           (c.counted-broken.ensures ∙ ap (λ b. counted_if b c.loop.broken) (c.is_broken.ensures ∙ ap is_broken c.end_of-end.ensures))
           (serving_more _ _ _ _ _ _ _ _ _ visit c.loop.invariant.serving (rw c.in-Ok-Some.field-0-is at c.in-Ok-Some.ensures.gives) took is
-              (sym (c.stop_of.ensures ∙ ap stop_of c.end_of-end.ensures) ∙ c.in-None-stop_of.is));
+          (sym (c.stop_of.ensures ∙ ap stop_of c.end_of-end.ensures) ∙ c.in-None-stop_of.is));
     }
 
 pub returns-in-Some-stop_of-clause-served : goal.returns-in-Some-stop_of-clause-served

@@ -1,4 +1,3 @@
-use Rattle.std.proofs.Common.{◌≡◌}
 use Rattle.ph_lock.specs.Passes.{IsPass, SamePass}
 use Rattle.ph_conn.specs.Fronts.{known_by}
 use Rattle.ph_host.proofs.VisitLemmas.{Serving}
