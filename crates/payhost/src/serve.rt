@@ -1,4 +1,7 @@
 //! A server on a port of this machine.
+ghost use Rattle.std.specs.Prelude.{◌≡◌, None, All, IfOk, length};
+ghost use Rattle.ph_host.specs.Plans.{plan_of};
+ghost use Rattle.ph_host.specs.declared.plans.Plan.TheVariants.{Host};
 
 use ph_bank::{SimAcquirer, Turns};
 use ph_base::{Bytes, NoMemory};
@@ -29,7 +32,9 @@ pub fn serve<
     count: u8,
     connections: u32,
     patience: u32,
-) -> u8 {
+) -> u8
+    requires plan { plan_of words.now ≡ Host number count connections patience }
+{
     let port = Port::listen(rt, number);
     let mut workers = match made(alloc, &port, count, connections, patience) {
         Ok(workers) => workers,
@@ -61,7 +66,10 @@ fn made(
     count: u8,
     connections: u32,
     patience: u32,
-) -> Result<Vec<PortWorker<'_>>, NoMemory> {
+) -> Result<Vec<PortWorker<'_>>, NoMemory>
+    ensures fresh { IfOk result (λ workers. All (λ worker. (worker.pass ≡ None) × (worker.last ≡ None)) workers.items) }
+    ensures count { IfOk result (λ workers. length workers.items ≡ count) }
+{
     let mut workers = Vec::new(alloc);
     for _ in 0..count {
         let worker = Worker::new(
