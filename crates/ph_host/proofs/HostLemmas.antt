@@ -11,8 +11,11 @@ use Rattle.ph_book.specs.declared.acts.Entry.{Entry}
 use Rattle.ph_book.specs.declared.hosted.Kept.TheVariants as kept
 use Rattle.ph_book.specs.declared.setup.Setup.{Setup}
 use Rattle.ph_book.specs.Callers.{caller_of}
+use Rattle.ph_book.specs.History.{doings_of}
 use Rattle.ph_book.specs.Hosts.{IsLawful}
+use Rattle.ph_conn.specs.Laws.{AuthorisedOnce}
 use Rattle.ph_conn.specs.Means.{Means}
+use Rattle.ph_conn.proofs.LawLemmas.{authorised_once, laws_hold}
 use Rattle.ph_host.specs.Servers.{IsNewPass, ServedBy, WorksBy, connection_limit, known_at_first, known_by_pass}
 use Rattle.ph_host.specs.Visits.{EndsAs, Served}
 use Rattle.ph_host.specs.declared.workers.WorkerEnd.{WorkerEnd}
@@ -42,6 +45,11 @@ module _ {X : Type 0} where
 pub begins_twice : {E : Type 0} (whole front seen : List E) → StartsWith whole front → StartsWith front seen → StartsWith whole seen
 begins_twice whole front seen first second =
     (second.0 ++ first.0, first.1 ∙ ap (λ l. l ++ first.0) second.1 ∙ append_assoc seen second.0 first.0)
+
+-- whatever a link tells, by a lawful history no confirmation was authorised twice
+pub once_by : (setup : Setup) (history : List Entry) (link : Link) → IsLawful setup history → AuthorisedOnce (doings_of setup history) link
+once_by setup history link lawful =
+    authorised_once (doings_of setup history) link (laws_hold setup history lawful.few lawful.legal).all_but_the_last_were_challenged
 
 -- a worker that has served isn't idle
 pub not_idle : {limit : ℕ} {end : WorkerEnd} {means0 means1 : Means} {gate0 gate1 : GateState} → Served limit end means0 means1 gate0 gate1 → end ≢ worker.Idle

@@ -1,8 +1,8 @@
 use Rattle.std.proofs.Common.{◌≡◌, ◌≢◌, sym, ap, ◌∙◌}
 use Rattle.std.specs.Prelude.{IsSomeAnd}
 use Rattle.ph_host.specs.declared.workers.WorkerEnd.TheVariants as worker
-use Rattle.ph_conn.proofs.LawLemmas.{authorised_once, laws_hold}
-use Rattle.ph_host.proofs.HostLemmas.{not_idle, some_and, some_gives, some_if, worked}
+use Rattle.ph_conn.proofs.LawLemmas.{laws_hold}
+use Rattle.ph_host.proofs.HostLemmas.{not_idle, once_by, some_and, some_gives, some_if, worked}
 use Rattle.ph_host.proofs.PairLemmas.{all_after_zip, all_any, all_of_zip, zip_thrice}
 use Rattle.ph_host.proofs.server.host.Goals as goal
 
@@ -81,8 +81,7 @@ returns-in-Ok-write_summary-clause-laws g c =
 
 pub returns-in-Ok-write_summary-clause-authorised_once : goal.returns-in-Ok-write_summary-clause-authorised_once
 returns-in-Ok-write_summary-clause-authorised_once g c =
-    let lawful = c.close-book.ensures.lawful in
-    all_any _ _ (λ w. authorised_once _ (g.A.Acquirer.link w.link) (laws_hold _ _ lawful.few lawful.legal).all_but_the_last_were_challenged)
+    all_any _ _ (λ w. once_by _ _ (g.A.Acquirer.link w.link) c.close-book.ensures.lawful)
 
 pub returns-in-Err-write_summary-clause-laws : goal.returns-in-Err-write_summary-clause-laws
 returns-in-Err-write_summary-clause-laws g c =
@@ -91,5 +90,4 @@ returns-in-Err-write_summary-clause-laws g c =
 
 pub returns-in-Err-write_summary-clause-authorised_once : goal.returns-in-Err-write_summary-clause-authorised_once
 returns-in-Err-write_summary-clause-authorised_once g c =
-    let lawful = c.close-book.ensures.lawful in
-    all_any _ _ (λ w. authorised_once _ (g.A.Acquirer.link w.link) (laws_hold _ _ lawful.few lawful.legal).all_but_the_last_were_challenged)
+    all_any _ _ (λ w. once_by _ _ (g.A.Acquirer.link w.link) c.close-book.ensures.lawful)
