@@ -1,0 +1,38 @@
+//! What holds after every list of moves from a new world, each the contract of a function that does nothing.
+ghost use Rattle.ph_world.specs.Laws.{AsksAreOrders, AsksOfLiveAttempts, AuthorisedOnce, DecisionsStay, Everywhere, IsLegalWorld, RepliesAreAnswers, RulingsAreDecisions};
+
+/// The history is legal, and the runs in flight are its live runs.
+pub fn legal()
+    ensures { Everywhere IsLegalWorld }
+{}
+
+/// Each ask carries the order for which the entry that began its run waits, with which its attempt began.
+pub fn asks_are_orders()
+    ensures { Everywhere AsksAreOrders }
+{}
+
+/// A move asks nothing, or once and of an attempt that is live: none is asked of after it was settled.
+pub fn asks_are_of_live_attempts()
+    ensures { Everywhere AsksOfLiveAttempts }
+{}
+
+/// Each attempt that is settled is settled with the acquirer's decision on its reference.
+pub fn rulings_are_decisions()
+    ensures { Everywhere RulingsAreDecisions }
+{}
+
+/// A decision never changes.
+pub fn decisions_stay()
+    ensures { DecisionsStay }
+{}
+
+/// Of the attempts of a confirmation at most one was asked about and approved: no confirmation is authorised twice.
+pub fn authorised_once()
+    ensures { Everywhere AuthorisedOnce }
+{}
+
+/// Each reply that a move is answered is what is said to the entry at the last place, so that repeats of a key are
+/// answered by the laws of key records.
+pub fn replies_are_answers()
+    ensures { Everywhere RepliesAreAnswers }
+{}
