@@ -87,9 +87,8 @@ module _ (setup : Setup) (history : List Entry) (few : setup.entries < 2 ^ 32) (
   places : length history + 1 ≡ suc (length (doings_of setup history))
   unfolding doings_of
   places =
-      let stood = (legal_stands setup history few legal).places in
-      let count = length_past setup history in
-      omega (arith, stood, count)
+      let count : length (doings_of setup history) ≡ length history = (legal_stands setup history few legal).places ∙ length_past setup history in
+      omega (arith, count)
 
   -- what a doing of an entry that may come may be
   pub may_do : (entry : Entry) → IsAllowed setup (past_of setup history) entry → MayDo (doings_of setup history) (effect_to setup history entry).doing

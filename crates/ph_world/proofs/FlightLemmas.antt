@@ -1,8 +1,7 @@
 -- Flights in a list: the first of a number, and the list without it.
 use Rattle.std.proofs.Common.{◌≡◌, ℕ, zero, suc, ◌+◌, ◌<◌, ◌≤◌, ◌==◌, nat_lt, Bool, true, false, not, cond, List, [], ◌∷◌, ◌++◌, length, take, drop, get_or, Option, Some, None, refl, sym, ap, ◌∙◌, subst, arith}
 use Rattle.std.specs.List.{position, position_or_len, remove, insert, find}
-use Rattle.std.proofs.lemmas.Bool.{eqb-true}
-use Rattle.std.proofs.lemmas.Bool.Decides.{nat_tests}
+use Rattle.std.proofs.lemmas.Bool.{eqb-true, ltb-false}
 use Rattle.std.proofs.lemmas.List.Quantifiers.{position-Some}
 use Rattle.ph_attempts.specs.declared.flights.Flight.{Flight}
 use Rattle.ph_book.specs.State.{BookState}
@@ -76,7 +75,7 @@ no_place n m is = at (nat_lt n m) refl
     at true e =
         let clash : Some n ≡ None = ap (λ b. cond b (Some n) None) (sym e) ∙ is in
         absurd (cc)
-    at false e = grind (arith, nat_tests, e)
+    at false e = ltb-false n m e
 
 pub not_placed : (flights : List Flight) (run : ℕ) → position (is_of run) flights ≡ None → IsNone flights run
 not_placed flights run is = beyond flights run (no_place (position_or_len (is_of run) flights) (length flights) is)

@@ -73,7 +73,7 @@ none_counted world (reference ∷ references) are all =
     let here : is_authorised world reference ≡ false =
     not_authorised world reference (standing_of (doings_in world.book) reference) are refl (and_left (test reference) (list_all test references) all) in
     let rest : count_by (is_authorised world) references ≡ 0 = none_counted world references are (and_right (test reference) (list_all test references) all) in
-    let none : cond (is_authorised world reference) 1 0 ≡ 0 = ap (λ b. cond b 1 0) here in
+    let none : ◌≡◌ {A = ℕ} (cond (is_authorised world reference) 1 0) 0 = ap (λ (b : Bool). cond b 1 0) here in
     let all_of = counted world reference references in
     omega (arith, all_of, none, rest)
 

@@ -1,12 +1,13 @@
 -- Every move keeps what holds of a world.
 use Rattle.std.proofs.Common.{◌≡◌, ℕ, ◌+◌, ◌^◌, ◌<◌, ◌≤◌, ◌==◌, nat_le, nat_lt, cond, Bool, true, false, List, [], ◌∷◌, ◌++◌, length, Option, Some, None, refl, sym, ap, ◌∙◌, subst, arith}
-use Rattle.std.proofs.lemmas.Bool.Decides.{nat_tests}
+use Rattle.std.proofs.lemmas.Bool.{leb-true, ltb-true}
 use Rattle.ph_base.specs.declared.acquirer.Ruling.{Ruling}
 use Rattle.ph_base.specs.declared.acquirer.Why.{Why}
 use Rattle.ph_base.specs.declared.acquirer.Why.TheVariants as why
 use Rattle.ph_attempts.specs.declared.flights.Flight.{Flight}
 use Rattle.ph_bank.specs.declared.memory.Decision.{Decision}
 use Rattle.ph_bank.specs.Scripts.{and_decision, ruling_of}
+use Rattle.ph_doings.specs.Standings.{Live}
 use Rattle.ph_doings.proofs.LawProofs.{live_is_run}
 use Rattle.ph_http.specs.declared.message.Raw.{Raw}
 use Rattle.ph_items.specs.Clocks.{clock_limit}
@@ -101,7 +102,7 @@ module _ (world : WorldState) (few : world.book.setup.entries < 2 ^ 32) (well : 
         began = well.began;
         asks = orders_push world.book world.asks (record { run = flight.run; order = flight.order }) well.asks (record {
           run = (flight_began world few well run flight is).waits;
-          attempt = record { intent = live.intent; standing = live.standing };
+          attempt = record { intent = live.intent; state = Live; standing = live.standing };
         });
         rulings = well.rulings;
       }
@@ -185,10 +186,10 @@ polled_well world few run (Some flight) well is =
 -- ---- moves
 
 caller_small : (caller : ℕ) → is_caller caller ≡ true → caller < 2 ^ 62
-caller_small caller is = grind (arith, nat_tests, is)
+caller_small caller is = ltb-true caller (2 ^ 62) is
 
 moment_shown : (moment : ℕ) → nat_le moment clock_limit ≡ true → moment ≤ clock_limit
-moment_shown moment is = grind (arith, nat_tests, is)
+moment_shown moment is = leb-true moment clock_limit is
 
 moved_well : (world : WorldState) (m : Move) → world.book.setup.entries < 2 ^ 32 → IsWell world → is_possible m ≡ true → IsWell (moved world m)
 moved_well world (move.Arrive caller raw) few well possible = call_well world few well caller raw (caller_small caller possible)
