@@ -92,6 +92,20 @@ found_run (other ∷ flights) run flight is = at (is_of run other) refl (found_r
         ap (λ (f : Flight). f.run) (sym same) ∙ eqb-true other.run run e
     at false e rest = rest (ap (λ b. cond b (Some other) (flight_in flights run)) (sym e) ∙ is)
 
+-- where none is found, none is left out
+pub none_left : (flights : List Flight) (run : ℕ) → flight_in flights run ≡ None → without run flights ≡ flights
+none_left [] run is = refl
+none_left (flight ∷ flights) run is = at (is_of run flight) refl (none_left flights run)
+  where
+    at : (b : Bool) → is_of run flight ≡ b → (flight_in flights run ≡ None → without run flights ≡ flights)
+        → cond (is_of run flight) flights (flight ∷ without run flights) ≡ flight ∷ flights
+    at true e rest =
+        let clash : Some flight ≡ None = ap (λ b. cond b (Some flight) (flight_in flights run)) (sym e) ∙ is in
+        absurd (cc)
+    at false e rest =
+        ap (λ b. cond b flights (flight ∷ without run flights)) e
+        ∙ ap (λ (fs : List Flight). flight ∷ fs) (rest (ap (λ b. cond b (Some flight) (flight_in flights run)) (sym e) ∙ is))
+
 -- ---- tickets in hand
 
 -- what holds of each of a list holds of the one that is found, and of the one at a place

@@ -5,3 +5,4 @@ pub mod EntryLemmas
 pub mod WellLemmas
 pub mod MoveLemmas
 pub mod LawLemmas
+pub mod CodeLemmas

@@ -1,5 +1,5 @@
 -- Runs in flight, their tickets, and the entries that end them.
-use Rattle.std.specs.Prelude.{ℕ, ◌+◌, ◌^◌, ◌<◌, ◌==◌, if◌then◌else◌, Bool, List, [], ◌∷◌, length, Option, Some, None}
+use Rattle.std.specs.Prelude.{ℕ, ◌+◌, ◌^◌, ◌<◌, ◌==◌, if◌then◌else◌, Bool, List, [], ◌∷◌, length, Option, Some, None, option_map}
 use Rattle.std.specs.List.{find}
 use Rattle.ph_base.specs.declared.acquirer.Ruling.{Ruling}
 use Rattle.ph_base.specs.declared.acquirer.Why.{Why}
@@ -60,13 +60,11 @@ and_entry book (Some entry) = entered book entry
 
 -- the entry by which a run in flight is given up for a reason, where there is one
 abbrev pub park_of : Why → Option Flight → Option Entry
-park_of why None = None
-park_of why (Some flight) = Some (park_entry flight.caller flight why)
+park_of why found = option_map (λ flight. park_entry flight.caller flight why) found
 
 -- the entry of a ruling on the order of a run in flight, where there is one
 abbrev pub finish_of : Ruling → Option Flight → Option Entry
-finish_of ruling None = None
-finish_of ruling (Some flight) = Some (finish_entry flight.caller flight ruling)
+finish_of ruling found = option_map (λ flight. finish_entry flight.caller flight ruling) found
 
 -- ---- answers
 
