@@ -6,3 +6,4 @@ pub mod WellLemmas
 pub mod MoveLemmas
 pub mod LawLemmas
 pub mod CodeLemmas
+pub mod EndLemmas

@@ -70,7 +70,7 @@ decided_well world reference ruling well = record {
 
 -- ---- own runs
 
-ends_park : (setup : Setup) (history : List Entry) (caller : ℕ) (ticket : Flight) (reason : Why) → Holds setup history caller ticket
+pub ends_park : (setup : Setup) (history : List Entry) (caller : ℕ) (ticket : Flight) (reason : Why) → Holds setup history caller ticket
     → EndsOwn (doings_of setup history) caller (deed.Park ticket.run reason)
 unfolding Holds
 ends_park setup history caller ticket reason holds = (ticket, holds)
@@ -185,10 +185,10 @@ polled_well world few run (Some flight) well is =
 
 -- ---- moves
 
-caller_small : (caller : ℕ) → is_caller caller ≡ true → caller < 2 ^ 62
+pub caller_small : (caller : ℕ) → is_caller caller ≡ true → caller < 2 ^ 62
 caller_small caller is = ltb-true caller (2 ^ 62) is
 
-moment_shown : (moment : ℕ) → nat_le moment clock_limit ≡ true → moment ≤ clock_limit
+pub moment_shown : (moment : ℕ) → nat_le moment clock_limit ≡ true → moment ≤ clock_limit
 moment_shown moment is = leb-true moment clock_limit is
 
 moved_well : (world : WorldState) (m : Move) → world.book.setup.entries < 2 ^ 32 → IsWell world → is_possible m ≡ true → IsWell (moved world m)
@@ -271,7 +271,7 @@ reached_sound world reached = subst IsSound (sym reached.led) (all_sound world.b
 pub reached_new : (setup : Setup) → IsFit setup → IsReached (new_world setup)
 reached_new setup fit = record { fit = fit; moves = []; led = refl }
 
-one_more : (world : WorldState) (moves : List Move) (m : Move) → after_moves world (moves ++ m ∷ []) ≡ after_move (after_moves world moves) m
+pub one_more : (world : WorldState) (moves : List Move) (m : Move) → after_moves world (moves ++ m ∷ []) ≡ after_move (after_moves world moves) m
 one_more world [] m = refl
 one_more world (first ∷ moves) m = one_more (after_move world first) moves m
 

@@ -1,5 +1,5 @@
 -- Runs in flight, their tickets, and the entries that end them.
-use Rattle.std.specs.Prelude.{ℕ, ◌+◌, ◌^◌, ◌<◌, ◌==◌, if◌then◌else◌, Bool, List, [], ◌∷◌, length, Option, Some, None, option_map}
+use Rattle.std.specs.Prelude.{◌≢◌, ℕ, ◌+◌, ◌^◌, ◌<◌, ◌==◌, if◌then◌else◌, Bool, List, [], ◌∷◌, length, Option, Some, None, option_map}
 use Rattle.std.specs.List.{find}
 use Rattle.ph_base.specs.declared.acquirer.Ruling.{Ruling}
 use Rattle.ph_base.specs.declared.acquirer.Why.{Why}
@@ -35,6 +35,16 @@ pub record InHand (book : BookState) (ticket : Flight) : Type 0 where
 abbrev pub AllInHand : BookState → List Flight → Type 0
 AllInHand book [] = Unit {0}
 AllInHand book (ticket ∷ tickets) = InHand book ticket × AllInHand book tickets
+
+-- a flight is of another run than each of these
+abbrev pub IsApart : Flight → List Flight → Type 0
+IsApart flight [] = Unit {0}
+IsApart flight (other ∷ flights) = (flight.run ≢ other.run) × IsApart flight flights
+
+-- no two of these are of one run
+abbrev pub AreApart : List Flight → Type 0
+AreApart [] = Unit {0}
+AreApart (flight ∷ flights) = IsApart flight flights × AreApart flights
 
 -- ---- what is said
 

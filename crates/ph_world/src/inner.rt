@@ -4,10 +4,9 @@ ghost use Rattle.ph_bank.specs.Scripts as script;
 ghost use Rattle.ph_items.specs.Clocks.{clock_limit};
 ghost use Rattle.ph_book.specs.declared.acts.Deed.TheVariants as deed;
 ghost use Rattle.ph_book.specs.Entries.{call_entry, resume_entry, tick_entry};
-ghost use Rattle.ph_book.specs.Laws.{runs_of};
 ghost use Rattle.ph_book.specs.Legal.{is_full};
 ghost use Rattle.ph_world.specs.declared.moves.WorldError.TheVariants as error;
-ghost use Rattle.ph_world.specs.Flights.{AllInHand, flight_in};
+ghost use Rattle.ph_world.specs.Flights.{AllInHand, AreApart, flight_in};
 ghost use Rattle.ph_world.specs.Moves.{after_move, is_possible, is_refused, moved, replied, has_no_room};
 ghost use Rattle.ph_world.specs.Playing.{ended};
 ghost use Rattle.ph_world.specs.Worlds.{decided, enter, given_up, new_world, polled};
@@ -249,7 +248,7 @@ impl Inner {
     /// Gives up each run in flight, in the order of their numbers, and has the book that is left.
     pub fn end(self) -> Book
         requires in_hand { AllInHand self.book self.flights }
-        requires runs { self.flights ≡ runs_of self.book.setup self.book.history }
+        requires apart { AreApart self.flights }
         ensures { result ≡ ended self.book self.flights }
     {
         let Inner {

@@ -2,14 +2,13 @@
 ghost use Rattle.std.specs.Prelude.{◌≡◌, ◌<◌, ◌≤◌, ◌++◌, Some, vec_len, vec_capacity, IfOk, IfErr, OnOk, OnErr};
 ghost use Rattle.std.specs.List.{insert, position};
 ghost use Rattle.ph_book.specs.Entries.{finish_entry, park_entry};
-ghost use Rattle.ph_book.specs.Laws.{runs_of};
 ghost use Rattle.ph_book.specs.State.{entered};
-ghost use Rattle.ph_world.specs.Flights.{AllInHand, InHand, and_entry, finish_of, flight_in, given_in, is_of, park_of, reply_in, reply_to, said_behind, tickets_in, without};
+ghost use Rattle.ph_world.specs.Flights.{AllInHand, AreApart, InHand, and_entry, finish_of, flight_in, given_in, is_of, park_of, reply_in, reply_to, said_behind, tickets_in, without};
 ghost use Rattle.ph_world.specs.Playing.{ended};
 
 use ph_attempts::Ticket;
 use ph_base::{NoMemory, Ruling, Why};
-use ph_book::{Act, Answer, Book};
+use ph_book::{Act, Answer, Book, runs_follow};
 use ph_http::Reply;
 
 /// The place among tickets of that of the run of a number.
@@ -130,10 +129,11 @@ fn put_back(tickets: &mut Vec<Ticket>, at: usize, ticket: Ticket)
 /// Gives up each of these runs in order, and has the book that is left.
 pub fn park_all(mut book: Book, mut tickets: Vec<Ticket>) -> Book
     requires in_hand { AllInHand book tickets.items }
-    requires runs { tickets.items ≡ runs_of book.setup book.history }
+    requires apart { AreApart tickets.items }
     ensures { result ≡ ended book tickets.items }
 {
     while !tickets.is_empty() {
+        runs_follow(book.setup(), book.history());
         let ticket = tickets.remove(0);
         let _ = park(&mut book, ticket, Why::Pending);
     }

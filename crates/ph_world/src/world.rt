@@ -61,7 +61,6 @@ impl World {
     pub fn play(&mut self, moves: &[Move]) -> Result<(), WorldError>
         ensures played { OnOk result (self.new ≡ after_moves self.old moves.now) }
         ensures stopped { IfErr result (λ why. StopsAt self.old moves.now self.new why) }
-        ensures reached { IsReached self.new }
     {
         for m in moves {
             match self.step(m) {
@@ -72,9 +71,10 @@ impl World {
         Ok(())
     }
 
-    /// The book, with the world's history.
+    /// The book, with the world's history. Some list of moves leads to the world.
     pub fn book(&self) -> &Book
-        ensures { result.now ≡ self.now.book }
+        ensures value { result.now ≡ self.now.book }
+        ensures reached { IsReached self.now }
     {
         self.inner.book()
     }
