@@ -1,5 +1,6 @@
 -- Every move keeps what holds of a world.
-use Rattle.std.proofs.Common.{◌≡◌, ℕ, ◌+◌, ◌^◌, ◌<◌, ◌≤◌, ◌==◌, nat_le, nat_lt, cond, Bool, true, false, List, [], ◌∷◌, ◌++◌, length, Option, Some, None, refl, sym, ap, ◌∙◌, subst, arith}
+use Rattle.std.proofs.Common.{◌≡◌, ℕ, ◌+◌, ◌^◌, ◌<◌, ◌≤◌, ◌==◌, nat_le, nat_lt, cond, Bool, true, false, List, [], ◌∷◌, ◌++◌, length, Option, Some, None, refl, sym, ap, ◌∙◌, subst, arith, Result, Ok, Err}
+use Rattle.std.specs.Prelude.{OnOk, OnErr}
 use Rattle.std.proofs.lemmas.Bool.{leb-true, ltb-true}
 use Rattle.ph_base.specs.declared.acquirer.Ruling.{Ruling}
 use Rattle.ph_base.specs.declared.acquirer.Why.{Why}
@@ -290,3 +291,9 @@ reached_after world m reached =
 pub reached_in_hand : (world : WorldState) → IsReached world → AllInHand world.book world.flights
 reached_in_hand world reached =
     let holds = reached_sound world reached in tickets_in_hand world holds.fit.few holds.well
+
+-- so it is after a step, whatever it answers
+pub reached_step : {X E : Type 0} (result : Result X E) (old new : WorldState) (m : Move) → IsReached old
+    → OnOk result (new ≡ after_move old m) → OnErr result (new ≡ old) → IsReached new
+reached_step (Ok x) old new m reached ok err = subst IsReached (sym ok) (reached_after old m reached)
+reached_step (Err x) old new m reached ok err = subst IsReached (sym err) reached

@@ -1,5 +1,5 @@
 //! The world.
-ghost use Rattle.std.specs.Prelude.{◌≡◌, ◌≤◌, [], false, length, IfOk, IfErr, OnOk, OnErr, IsTrue};
+ghost use Rattle.std.specs.Prelude.{◌≡◌, ◌<◌, ◌≤◌, ◌^◌, [], false, length, IfOk, IfErr, OnOk, OnErr, IsTrue};
 ghost use Rattle.ph_items.specs.Clocks.{clock_limit};
 ghost use Rattle.ph_book.specs.Laws.{runs_of};
 ghost use Rattle.ph_world.specs.declared.moves.WorldError.TheVariants as error;
@@ -33,12 +33,18 @@ impl Model for World {
     ghost invariant = { λ w. IsReached w.inner };
 }
 
+// A setup has room for fewer than 2^32 entries.
+fn few_entries(_entries: u32)
+    ensures { _entries < 2 ^ 32 }
+{}
+
 impl World {
     /// A new world, over a book without entries.
     pub fn new(alloc: Global, setup: Setup) -> Result<World, NoMemory>
         requires opened { setup.opened ≤ clock_limit }
         ensures { IfOk result (λ world. world ≡ new_world setup) }
     {
+        few_entries(setup.entries);
         Ok(World {
             inner: Inner::new(alloc, setup)?,
         })

@@ -1,0 +1,6 @@
+use Rattle.std.proofs.Common.{◌≡◌, take}
+use Rattle.ph_world.specs.Moves.{after_moves}
+use Rattle.ph_world.proofs.world.World.play.Given as goal
+
+abbrev pub invariant-loop-m : goal.invariant-loop-m
+invariant-loop-m l = l.self ≡ after_moves l.fn.self (take l.m-index l.moves)
