@@ -1,19 +1,11 @@
-use Rattle.std.proofs.Common.{refl, ap, ◌∙◌, ◌++◌}
+use Rattle.std.proofs.Common.{◌∙◌}
 use Rattle.ph_book.specs.Entries.{call_entry}
-use Rattle.ph_world.specs.Flights.{tickets_in}
-use Rattle.ph_world.proofs.CodeLemmas.{entered_is, entered_reply}
+use Rattle.ph_world.proofs.CodeLemmas.{entered_reply}
 use Rattle.ph_world.proofs.inner.Inner.call.Goals as goal
 
-pub returns-in-Ok-clause-after : goal.returns-in-Ok-clause-after
-returns-in-Ok-clause-after c =
-    entered_is c.args.self.now c.self.inside.book c.apply.new.self c.self.inside.tickets.items c.keep.new.tickets.items
-    c.self.inside.decisions.items c.self.inside.asks.items (call_entry c.args.caller c.args.raw.now) c.in-Ok.answer c.self.view_is
-    c.in-Ok.ensures.answer c.in-Ok.ensures.entry c.in-Ok.ensures.room refl
-    (c.keep.ensures.tickets ∙ ap (λ tickets. tickets ++ tickets_in c.in-Ok.answer) c.reserve.ensures.items)
-
-pub returns-in-Ok-clause-reply : goal.returns-in-Ok-clause-reply
-returns-in-Ok-clause-reply c =
+pub returns-in-Ok-apply-clause-reply : goal.returns-in-Ok-apply-clause-reply
+returns-in-Ok-apply-clause-reply c =
     c.keep.ensures.reply
     ∙ entered_reply c.args.self.now c.self.inside.book c.apply.new.self c.self.inside.tickets.items
-    c.self.inside.decisions.items c.self.inside.asks.items (call_entry c.args.caller c.args.raw.now) c.in-Ok.answer c.self.view_is
-    c.in-Ok.ensures.answer c.in-Ok.ensures.entry
+    c.self.inside.decisions.items c.self.inside.asks.items (call_entry c.args.caller c.in-Ok.raw) c.in-Ok-apply.answer c.self.view_is
+    c.in-Ok-apply.ensures.answer c.in-Ok-apply.ensures.entry
