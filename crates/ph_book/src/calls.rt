@@ -1,7 +1,7 @@
 //! What a call comes to.
-ghost use Rattle.std.specs.Prelude.{◌≡◌, ℕ, List, [], length, false, IfOk, IfSome, IsSome, None, Option, Some, is_some, option_copied};
+ghost use Rattle.std.specs.Prelude.{◌≡◌, ℕ, List, [], false, IfOk, IfSome, IsSome, None, Option, is_some, option_copied};
 ghost use Rattle.ph_rows.specs.declared.rows.Row.{Row};
-ghost use Rattle.ph_rows.specs.Batches.{BatchState, empty_batch, made_rows};
+ghost use Rattle.ph_rows.specs.Batches.{BatchState, made_rows};
 ghost use Rattle.ph_rows.specs.Names.{owned_named};
 ghost use Rattle.ph_facts.specs.Outcomes.{Gives, Outcome};
 ghost use Rattle.ph_idem.specs.declared.asked.Asked.{Asked};
@@ -10,9 +10,10 @@ ghost use Rattle.ph_items.specs.Accounts.{platform};
 ghost use Rattle.ph_intents.specs.Begun.{GivesBegun};
 ghost use Rattle.ph_intents.specs.Capture.{capture_outcome};
 ghost use Rattle.ph_book.specs.declared.setup.Setup.{Setup};
-ghost use Rattle.ph_book.specs.Calls.{Keys, Makes, Shows, and_opened, authenticated, carried, clock_set, created, key_asked, keyed_upshot, opens, retrieved};
-ghost use Rattle.ph_book.specs.Called.{Comes, HaveReplies, IsCalled, ServeKeys, asked_if, opening_of};
-ghost use Rattle.ph_book.specs.History.{Effect, call_effect, request_effect};
+ghost use Rattle.ph_book.specs.Calls.{Keys, Makes, Shows, and_opened, authenticated, carried, clock_set, created, key_asked, retrieved};
+ghost use Rattle.ph_book.specs.Called.{Comes, HaveReplies, IsCalled, ServeKeys, opening_of};
+ghost use Rattle.ph_book.specs.ComesTo.{KeyedComesTo, OwnComesTo, RequestComesTo};
+ghost use Rattle.ph_book.specs.History.{Effect};
 ghost use Rattle.ph_book.specs.Keys.{asked_in, request_of};
 ghost use Rattle.ph_book.specs.Replies.{Replies, Waits, doc_reply, error_reply, replayed_reply, shown_reply};
 
@@ -236,8 +237,8 @@ fn shown(
     batch: Batch,
     asked: Option<Asked>,
 ) -> Result<Called, NoMemory>
-    ensures { (effect : Effect) (place caller : ℕ) → effect.said ≡ Replies (shown_reply store.now.time store.now.rows object batch) → effect.saves ≡ is_some asked
-        → effect.rows ≡ made_rows (key_asked asked) batch → effect.now ≡ store.now.time
+    ensures { (effect : Effect) (place caller : ℕ) → effect.said ≡ Replies (shown_reply store.now.time store.now.rows object batch)
+        → effect.saves ≡ is_some asked → effect.rows ≡ made_rows (key_asked asked) batch → effect.now ≡ store.now.time
         → IfOk result (λ called. IsCalled store.now.rows store.now.time place caller asked asked effect called) }
 {
     let reply = shown_reply(alloc, store, object, &batch)?;
@@ -253,8 +254,8 @@ fn waiting(
     batch: Batch,
     asked: Option<Asked>,
 ) -> Result<Called, NoMemory>
-    ensures { (rows : List Row) (now place caller : ℕ) (effect : Effect) → effect.said ≡ Waits order → effect.saves ≡ is_some asked
-        → effect.rows ≡ made_rows (key_asked asked) batch → effect.now ≡ now
+    ensures { (rows : List Row) (now place caller : ℕ) (effect : Effect) → effect.said ≡ Waits order
+        → effect.saves ≡ is_some asked → effect.rows ≡ made_rows (key_asked asked) batch → effect.now ≡ now
         → IfOk result (λ called. IsCalled rows now place caller asked asked effect called) }
 {
     let rows = batch.into_rows(alloc, key_in(&asked))?;
@@ -263,8 +264,9 @@ fn waiting(
 
 // A call that shows a document, and leaves this time.
 fn answered(alloc: Global, doc: &Doc, now: u64, asked: Option<Asked>) -> Result<Called, NoMemory>
-    ensures { (rows : List Row) (time place caller : ℕ) (of : Option Asked) (effect : Effect) → effect.said ≡ Replies (doc_reply doc.now) → effect.saves ≡ is_some asked
-        → effect.rows ≡ [] → effect.now ≡ now → IfOk result (λ called. IsCalled rows time place caller of asked effect called) }
+    ensures { (rows : List Row) (time place caller : ℕ) (of : Option Asked) (effect : Effect) → effect.said ≡ Replies (doc_reply doc.now)
+        → effect.saves ≡ is_some asked → effect.rows ≡ [] → effect.now ≡ now
+        → IfOk result (λ called. IsCalled rows time place caller of asked effect called) }
 {
     let reply = doc_reply(alloc, doc)?;
     let opening = opened(alloc, asked, &reply)?;
@@ -278,8 +280,9 @@ fn refused(
     now: u64,
     asked: Option<Asked>,
 ) -> Result<Called, NoMemory>
-    ensures { (rows : List Row) (time place caller : ℕ) (of : Option Asked) (effect : Effect) → effect.said ≡ Replies (error_reply error.now) → effect.saves ≡ is_some asked
-        → effect.rows ≡ [] → effect.now ≡ now → IfOk result (λ called. IsCalled rows time place caller of asked effect called) }
+    ensures { (rows : List Row) (time place caller : ℕ) (of : Option Asked) (effect : Effect) → effect.said ≡ Replies (error_reply error.now)
+        → effect.saves ≡ is_some asked → effect.rows ≡ [] → effect.now ≡ now
+        → IfOk result (λ called. IsCalled rows time place caller of asked effect called) }
 {
     let reply = error_reply(alloc, error, None)?;
     let opening = opened(alloc, asked, &reply)?;
@@ -294,8 +297,7 @@ fn made(
     call: &Call,
     asked: Option<Asked>,
 ) -> Result<Called, NoMemory>
-    ensures { (caller : ℕ) → IfOk result (λ called. IsCalled store.now.rows store.now.time place caller asked asked
-        (call_effect (key_asked asked) (is_some asked) store.now.rows store.now.time place caller (carried store.now.rows store.now.time call.now (empty_batch (length store.now.rows) store.now.time place))) called) }
+    ensures { (caller : ℕ) → IfOk result (λ called. OwnComesTo store.now.rows store.now.time place caller call.now asked called) }
 {
     let mut batch = Batch::new(alloc, store.rows().len() as u64, store.time(), place);
     match carry(alloc, store, call, &mut batch) {
@@ -311,8 +313,10 @@ fn made(
 // A reply that was saved, given once more.
 fn replayed(alloc: Global, store: &Store, saved: Option<&Saved>) -> Result<Called, NoMemory>
     requires there { IsSome (option_copied saved) }
-    ensures { (rows : List Row) (time place caller : ℕ) (of : Option Asked) (effect : Effect) → IfSome (option_copied saved.entry) (λ reply. effect.said ≡ Replies (replayed_reply reply))
-        → effect.saves ≡ false → effect.rows ≡ [] → effect.now ≡ store.now.time → IfOk result (λ called. IsCalled rows time place caller of None effect called) }
+    ensures { (rows : List Row) (time place caller : ℕ) (of : Option Asked) (effect : Effect)
+        → IfSome (option_copied saved.entry) (λ reply. effect.said ≡ Replies (replayed_reply reply))
+        → effect.saves ≡ false → effect.rows ≡ [] → effect.now ≡ store.now.time
+        → IfOk result (λ called. IsCalled rows time place caller of None effect called) }
 {
     match saved {
         Some(saved) => {
@@ -333,8 +337,8 @@ fn keyed(
     asked: Asked,
 ) -> Result<Called, NoMemory>
     requires replies { HaveReplies store.now.time records.now }
-    ensures { (keys : Keys) (caller : ℕ) → ServeKeys keys store.now.rows store.now.time records.now → IfOk result (λ called. IsCalled store.now.rows store.now.time place caller (Some asked) (asked_if (opens keys (Some asked)) (Some asked))
-        (call_effect (Some asked.key) (opens keys (Some asked)) store.now.rows store.now.time place caller (keyed_upshot keys store.now.rows (empty_batch (length store.now.rows) store.now.time place) (carried store.now.rows store.now.time call.now (empty_batch (length store.now.rows) store.now.time place)) (Some asked))) called) }
+    ensures { (keys : Keys) (caller : ℕ) → ServeKeys keys store.now.rows store.now.time records.now
+        → IfOk result (λ called. KeyedComesTo keys store.now.rows store.now.time place caller call.now asked called) }
 {
     let now = store.time();
     match records.find(asked.account, asked.key.as_slice(), &asked.shape, now) {
@@ -362,8 +366,8 @@ pub fn called_by(
     raw: &Raw,
 ) -> Result<Called, NoMemory>
     requires replies { HaveReplies store.now.time records.now }
-    ensures { (setup : Setup) (keys : Keys) (caller : ℕ) → setup.key ≡ key.now → ServeKeys keys store.now.rows store.now.time records.now → IfOk result (λ called. IsCalled store.now.rows store.now.time place caller (asked_in (request_of key.now raw.now)) (asked_if (opens keys (asked_in (request_of key.now raw.now))) (asked_in (request_of key.now raw.now)))
-        (request_effect setup keys store.now.rows store.now.time place caller raw.now (asked_in (request_of key.now raw.now))) called) }
+    ensures { (setup : Setup) (keys : Keys) (caller : ℕ) → setup.key ≡ key.now → ServeKeys keys store.now.rows store.now.time records.now
+        → IfOk result (λ called. RequestComesTo setup keys store.now.rows store.now.time place caller raw.now (asked_in (request_of key.now raw.now)) called) }
 {
     match judge(alloc, key, raw)? {
         Judged::Refused(error) => refused(alloc, &error, store.time(), None),
