@@ -19,7 +19,7 @@ ghost use Rattle.ph_book.specs.OwnRuns.{RunsAfter};
 ghost use Rattle.ph_book.specs.Tickets.{HandsOut, Holds, SpendsOwn};
 
 use crate::acts::{Act, Answer, Deed, Entry, Query};
-use crate::calls::{Called, Opening, called_by};
+use crate::calls::{Called, SavedOpening, called_by};
 use crate::endings::{Ending, Saving, parked_row, resumed_row, settled};
 use crate::keeping::{keep, open, save};
 use crate::room::{later, one_less, push_row, room_to_resume, take_room};
@@ -227,7 +227,7 @@ impl Book {
         raw: Raw,
         rows: Vec<Row>,
         now: u64,
-        opening: Option<Opening>,
+        opening: Option<SavedOpening>,
     ) -> Result<(), Raw>
         requires caller { caller < 2 ^ 62 }
         requires room { is_full self.old.setup self.old.history (deed.Call raw) ≡ false }

@@ -11,7 +11,7 @@ ghost use Rattle.ph_intents.specs.Begun.{GivesBegun};
 ghost use Rattle.ph_intents.specs.Capture.{capture_outcome};
 ghost use Rattle.ph_book.specs.declared.setup.Setup.{Setup};
 ghost use Rattle.ph_book.specs.Calls.{Keys, Makes, Shows, and_opened, authenticated, carried, clock_set, created, key_asked, retrieved};
-ghost use Rattle.ph_book.specs.Called.{Comes, HaveReplies, IsCalled, ServeKeys, opening_of};
+ghost use Rattle.ph_book.specs.Called.{Comes, HaveReplies, IsCalled, ServeKeys, saved_opening_of};
 ghost use Rattle.ph_book.specs.ComesTo.{KeyedComesTo, OwnComesTo, RequestComesTo};
 ghost use Rattle.ph_book.specs.History.{Effect};
 ghost use Rattle.ph_book.specs.Keys.{asked_in, request_of};
@@ -51,7 +51,7 @@ pub enum Carried {
 
 /// A record that a call opens, with the reply to it.
 #[derive(Drop, Debug)]
-pub struct Opening {
+pub struct SavedOpening {
     pub asked: Asked,
     pub saved: Saved,
 }
@@ -60,7 +60,7 @@ pub struct Opening {
 #[derive(Drop, Debug)]
 pub enum Called {
     /// It is answered by this reply, leaves this time, and opens a record or none.
-    Answered(Reply, Vec<Row>, u64, Option<Opening>),
+    Answered(Reply, Vec<Row>, u64, Option<SavedOpening>),
     /// It waits until the acquirer has ruled on this order, and opens a record of what it asks, or none.
     Waiting(Order, Vec<Row>, Option<Asked>),
     /// It takes the attempt of this reference up again.
@@ -204,11 +204,11 @@ fn carry(alloc: Global, store: &Store, call: &Call, batch: &mut Batch) -> Result
 }
 
 // The record that a call opens to which this is replied, where it opens one.
-fn opened(alloc: Global, asked: Option<Asked>, reply: &Reply) -> Result<Option<Opening>, NoMemory>
-    ensures { IfOk result (λ opening. opening ≡ opening_of asked reply.now) }
+fn opened(alloc: Global, asked: Option<Asked>, reply: &Reply) -> Result<Option<SavedOpening>, NoMemory>
+    ensures { IfOk result (λ opening. opening ≡ saved_opening_of asked reply.now) }
 {
     match asked {
-        Some(asked) => Ok(Some(Opening {
+        Some(asked) => Ok(Some(SavedOpening {
             asked,
             saved: Saved {
                 status: reply.status,
