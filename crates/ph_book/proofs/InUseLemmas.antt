@@ -66,9 +66,11 @@ deed_heard setup keys past rows now place caller deed.Resume asked asks h = absu
 deed_heard setup keys past rows now place caller (deed.Tick moment) asked asks h = absurd (cc)
 
 heard_more : (setup : Setup) (past : List Happening) (entry : Entry) → AreHeard (turns_after setup past) → AreHeard (turns_after setup (and_then setup past entry))
-heard_more setup past entry heard = subst AreHeard (sym (turns_more setup past (happening_of setup past entry)))
-    (λ asked asks silent. deed_heard setup (keys_after setup past) (doings_after past) (rows_after setup past) (time_after setup past) (length past + 1)
-    entry.caller entry.deed asked asks silent, heard)
+heard_more setup past entry heard = subst AreHeard (sym (turns_more setup past (happening_of setup past entry))) (
+  λ asked asks silent. deed_heard setup (keys_after setup past) (doings_after past) (rows_after setup past) (time_after setup past) (length past + 1)
+      entry.caller entry.deed asked asks silent,
+  heard,
+)
 
 heard_from : (setup : Setup) (past : List Happening) (entries : List Entry) → AreHeard (turns_after setup past)
     → AreHeard (turns_after setup (fold (and_then setup) past entries))

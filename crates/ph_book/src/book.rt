@@ -201,12 +201,15 @@ impl Book {
     {
         self.lawful();
         match called {
-            Called::Answered(reply, rows, now, opening) => {
-                match self.enter(caller, raw, rows, now, opening) {
-                    Ok(()) => Ok(Answer::Reply(reply)),
-                    Err(raw) => Err(raw),
-                }
-            }
+            Called::Answered {
+                reply,
+                rows,
+                now,
+                opening,
+            } => match self.enter(caller, raw, rows, now, opening) {
+                Ok(()) => Ok(Answer::Reply(reply)),
+                Err(raw) => Err(raw),
+            },
             Called::Waiting(order, rows, asked) => {
                 match self.begin(caller, raw, order, rows, asked) {
                     Ok(ticket) => Ok(Answer::Wait(ticket)),

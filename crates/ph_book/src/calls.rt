@@ -59,8 +59,15 @@ pub struct SavedOpening {
 /// What a call comes to, with the rows that it makes.
 #[derive(Drop, Debug)]
 pub enum Called {
-    /// It is answered by this reply, leaves this time, and opens a record or none.
-    Answered(Reply, Vec<Row>, u64, Option<SavedOpening>),
+    /// It is answered by this reply.
+    Answered {
+        reply: Reply,
+        rows: Vec<Row>,
+        /// The time that it leaves, in seconds since 1970.
+        now: u64,
+        /// The record that it opens, where it opens one.
+        opening: Option<SavedOpening>,
+    },
     /// It waits until the acquirer has ruled on this order, and opens a record of what it asks, or none.
     Waiting(Order, Vec<Row>, Option<Asked>),
     /// It takes the attempt of this reference up again.
@@ -204,7 +211,11 @@ fn carry(alloc: Global, store: &Store, call: &Call, batch: &mut Batch) -> Result
 }
 
 // The record that a call opens to which this is replied, where it opens one.
-fn opened(alloc: Global, asked: Option<Asked>, reply: &Reply) -> Result<Option<SavedOpening>, NoMemory>
+fn opened(
+    alloc: Global,
+    asked: Option<Asked>,
+    reply: &Reply,
+) -> Result<Option<SavedOpening>, NoMemory>
     ensures { IfOk result (λ opening. opening ≡ saved_opening_of asked reply.now) }
 {
     match asked {
@@ -244,7 +255,12 @@ fn shown(
     let reply = shown_reply(alloc, store, object, &batch)?;
     let rows = batch.into_rows(alloc, key_in(&asked))?;
     let opening = opened(alloc, asked, &reply)?;
-    Ok(Called::Answered(reply, rows, store.time(), opening))
+    Ok(Called::Answered {
+        reply,
+        rows,
+        now: store.time(),
+        opening,
+    })
 }
 
 // An accepted call, which waits for an order.
@@ -270,7 +286,12 @@ fn answered(alloc: Global, doc: &Doc, now: u64, asked: Option<Asked>) -> Result<
 {
     let reply = doc_reply(alloc, doc)?;
     let opening = opened(alloc, asked, &reply)?;
-    Ok(Called::Answered(reply, Vec::new(alloc), now, opening))
+    Ok(Called::Answered {
+        reply,
+        rows: Vec::new(alloc),
+        now,
+        opening,
+    })
 }
 
 // A request that is refused, which leaves this time.
@@ -286,7 +307,12 @@ fn refused(
 {
     let reply = error_reply(alloc, error, None)?;
     let opening = opened(alloc, asked, &reply)?;
-    Ok(Called::Answered(reply, Vec::new(alloc), now, opening))
+    Ok(Called::Answered {
+        reply,
+        rows: Vec::new(alloc),
+        now,
+        opening,
+    })
 }
 
 // What a call comes to by itself as the entry of a place: it opens a record of what it asks, where it is handed that.
@@ -321,7 +347,12 @@ fn replayed(alloc: Global, store: &Store, saved: Option<&Saved>) -> Result<Calle
     match saved {
         Some(saved) => {
             let reply = replayed_reply(alloc, saved)?;
-            Ok(Called::Answered(reply, Vec::new(alloc), store.time(), None))
+            Ok(Called::Answered {
+                reply,
+                rows: Vec::new(alloc),
+                now: store.time(),
+                opening: None,
+            })
         }
         None => unreachable!(),
     }
