@@ -1,5 +1,5 @@
 -- A call finds its key in use only while a run lives.
-use Rattle.std.proofs.Common.{◌≡◌, ℕ, suc, ◌+◌, ◌^◌, ◌<◌, ◌≤◌, ◌==◌, ◌&&◌, ◌∷◌, nat_le, Bool, true, false, if◌then◌else◌, List, [], length, Option, Some, None, refl, sym, ap, ◌∙◌, subst, arith}
+use Rattle.std.proofs.Common.{◌≡◌, ℕ, suc, ◌+◌, ◌^◌, ◌<◌, ◌≤◌, ◌==◌, ◌&&◌, ◌∷◌, nat_le, Bool, true, false, if◌then◌else◌, List, [], length, Option, Some, None, refl, sym, ◌∙◌, subst, arith}
 use Rattle.std.specs.List.{fold}
 use Rattle.std.proofs.lemmas.Bool.Decides.{nat_tests}
 use Rattle.ph_items.specs.declared.orders.Order.{Order}
@@ -11,7 +11,7 @@ use Rattle.ph_doings.specs.Confirmations.{begun_by}
 use Rattle.ph_doings.specs.Doings.{Doing}
 use Rattle.ph_doings.specs.Laws.{IsFlown}
 use Rattle.ph_doings.specs.Lawful.{IsLawful}
-use Rattle.ph_doings.specs.Records.{Found, Fresh, Differs, Live, Opened, Never, Opens, Said, Replies, Silence, Waits, Turn, a_day, doings_of, found_in, is_over, last_opened, result_of, result_of_attempt, result_said, said_at, time_of}
+use Rattle.ph_doings.specs.Records.{Fresh, Differs, Live, Opened, Never, Opens, Said, Replies, Silence, Waits, Turn, a_day, doings_of, found_in, is_over, last_opened, result_of, result_of_attempt, result_said, said_at, time_of}
 use Rattle.ph_doings.specs.Standings.{Standing, NotBegun, Stands, standing_of}
 use Rattle.ph_doings.specs.Standings as attempt
 use Rattle.ph_doings.proofs.LawProofs.{live_is_run}
@@ -27,7 +27,6 @@ use Rattle.ph_book.specs.Calls.{Keys, Upshot, Rejects, Replays, Makes, Shows, Se
 use Rattle.ph_book.specs.Keys.{asked_in, request_of}
 use Rattle.ph_book.specs.History.{Happening, and_then, call_effect, deed_asks, doings_after, effect_of, happening_of, keys_after, past_of, rows_after, said_briefly, shown_or_waits, time_after, turns_after}
 use Rattle.ph_book.specs.History as history
-use Rattle.ph_book.specs.Legal.{IsLegal}
 use Rattle.ph_book.specs.KeyLaws.{ConflictWhileARunLives, keys_of, turns_of}
 use Rattle.ph_book.proofs.KeyLemmas.{turn_doings, turns_more}
 use Rattle.ph_book.proofs.KeyLawLemmas.{legal_turned, turn_time}

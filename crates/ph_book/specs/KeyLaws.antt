@@ -1,5 +1,5 @@
 -- What holds of the idempotency keys of every legal history.
-use Rattle.std.specs.Prelude.{◌≡◌, ℕ, ◌+◌, ◌<◌, ◌≤◌, true, List, [], ◌∷◌, ◌++◌, length, Some, None}
+use Rattle.std.specs.Prelude.{◌≡◌, ℕ, ◌+◌, ◌<◌, true, List, [], ◌∷◌, ◌++◌, length, Some, None}
 use Rattle.ph_doings.specs.Confirmations.{begun_by}
 use Rattle.ph_doings.specs.Laws.{IsFlown}
 use Rattle.ph_doings.specs.Records.{Fresh, Live, Saved, Turn, Waits, a_day, last_opened, result_of, said_at}
