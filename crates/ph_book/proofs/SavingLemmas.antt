@@ -193,7 +193,7 @@ reply_now setup past entry =
 -- a record is opened with the reply to its call
 replied_records : (reply : ℕ → Saved) (open_ : Bool) (asked : Option Asked) (place moment : ℕ) (given : Reply) (records : List KeyRecord)
     → reply place ≡ record { status = given.status; body = given.body }
-    → with_opened reply found.Replies (opened_if open_ asked place moment) records ≡ kept_records (called.opening_of (asked_if open_ asked) given) place moment records
+    → with_opened reply found.Replies (opened_if open_ asked place moment) records ≡ kept_records (called.saved_opening_of (asked_if open_ asked) given) place moment records
 replied_records reply true None place moment given records is = refl
 replied_records reply false None place moment given records is = refl
 replied_records reply true (Some asked) place moment given records is =
@@ -236,7 +236,7 @@ pub replied_kept : (setup : Setup) (history : List Entry) (caller : ℕ) (raw : 
     → IsAllowed setup (past_of setup history) (call_entry caller raw) → SettlesNone (step_of (effect_to setup history (call_entry caller raw)).doing)
     → (effect_to setup history (call_entry caller raw)).said ≡ Replies reply
     → records_of setup (history ++ call_entry caller raw ∷ [])
-    ≡ kept_records (called.opening_of (asked_if (effect_to setup history (call_entry caller raw)).saves (deed_asks setup (deed.Call raw))) reply)
+    ≡ kept_records (called.saved_opening_of (asked_if (effect_to setup history (call_entry caller raw)).saves (deed_asks setup (deed.Call raw))) reply)
     (length history + 1) (happened.time_of setup history) (records_of setup history)
 unfolding effect_to happened.time_of
 replied_kept setup history caller raw reply small legal allowed none said =
@@ -371,7 +371,7 @@ none_newest setup history place small legal is =
 
 -- what a call opens weighs what it saves
 pub opening_weighs : (open_ : Bool) (asks : Option Asked) (reply : Reply) → (asks ≡ None → open_ ≡ false)
-    → saved_weight open_ (Replies reply) ≡ opening_weight (called.opening_of (asked_if open_ asks) reply)
+    → saved_weight open_ (Replies reply) ≡ opening_weight (called.saved_opening_of (asked_if open_ asks) reply)
 opening_weighs true None reply only = let wrong : true ≡ false = only refl in absurd (cc)
 opening_weighs false None reply only = refl
 opening_weighs true (Some asked) reply only = omega arith
@@ -398,7 +398,7 @@ saving_weighs (Some kept) reply = omega arith
 -- ---- the statuses that are saved
 
 pub opened_well : (asked : Option Asked) (reply : Reply) (place moment : ℕ) (records : List KeyRecord) → is_status_well reply.status ≡ true
-    → list_all is_saved_well records ≡ true → list_all is_saved_well (kept_records (called.opening_of asked reply) place moment records) ≡ true
+    → list_all is_saved_well records ≡ true → list_all is_saved_well (kept_records (called.saved_opening_of asked reply) place moment records) ≡ true
 opened_well None reply place moment records well all = all
 opened_well (Some asked) reply place moment records well all = rw well all
 

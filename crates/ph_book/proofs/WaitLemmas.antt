@@ -52,7 +52,7 @@ AreWaited opened (turn ∷ past) = WaitsIf (opening_of opened past turn.asked) t
 -- ---- an attempt that hasn't begun
 
 -- what hasn't begun after a doing hadn't before it, and the doing began another
-unbegun_by : (doing : Doing) (past : List Doing) (reference : ℕ) → standing_of (doing ∷ past) reference ≡ NotBegun
+pub unbegun_by : (doing : Doing) (past : List Doing) (reference : ℕ) → standing_of (doing ∷ past) reference ≡ NotBegun
     → (standing_of past reference ≡ NotBegun) × ((begun : ℕ) → begun_by doing ≡ Some begun → (reference == begun) ≡ false)
 unbegun_by Leaves past reference new = (new, λ begun is. absurd (none-some begun is))
 unbegun_by (Puts intent status) past reference new = (new, λ begun is. absurd (none-some begun is))
