@@ -1,13 +1,12 @@
 -- What a book makes of a call, by what it keeps.
-use Rattle.std.proofs.Common.{◌≡◌, ℕ, ◌+◌, ◌∷◌, ◌++◌, List, [], length, Option, Some, None, is_some, refl, sym, ap, ◌∙◌, subst}
-use Rattle.ph_attempts.specs.Attempts.{Begins, Step}
+use Rattle.std.proofs.Common.{◌≡◌, ℕ, ◌+◌, List, length, Option, Some, None, is_some, refl, sym, ap, ◌∙◌, subst}
+use Rattle.ph_attempts.specs.Attempts.{Begins}
 use Rattle.ph_attempts.specs.declared.flights.Attempt as flights
 use Rattle.ph_doings.specs.Kept.{step_of}
 use Rattle.ph_http.specs.declared.message.Raw.{Raw}
 use Rattle.ph_http.specs.declared.message.Reply.{Reply}
 use Rattle.ph_idem.specs.declared.asked.Asked.{Asked}
 use Rattle.ph_idem.specs.declared.key_record.KeyRecord.{KeyRecord}
-use Rattle.ph_idem.specs.Kept.{records_after}
 use Rattle.ph_items.specs.declared.orders.Order.{Order}
 use Rattle.ph_rows.specs.declared.rows.Row.{Row}
 use Rattle.ph_book.specs.declared.setup.Setup.{Setup}
@@ -19,7 +18,7 @@ use Rattle.ph_idem.specs.Records.{found_in}
 use Rattle.ph_book.specs.Called.{HaveReplies, IsCalled, IsOpening, ServeKeys, asked_if, saved_opening_of}
 use Rattle.ph_book.specs.Calls.{Keys, opens}
 use Rattle.ph_book.specs.Entries.{call_entry}
-use Rattle.ph_book.specs.History.{Effect, deed_asks, effect_to, keys_after, past_of, reply_at, request_effect, rows_of, saids_after, time_of, turns_after}
+use Rattle.ph_book.specs.History.{Effect, deed_asks, effect_to, past_of, request_effect, rows_of, time_of}
 use Rattle.ph_book.specs.Hosts as host
 use Rattle.ph_book.specs.Keys.{asked_in, request_of}
 use Rattle.ph_book.specs.Replies.{Said, Replies, Waits}

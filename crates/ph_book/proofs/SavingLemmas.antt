@@ -1,14 +1,12 @@
 -- The records of keys after each kind of entry, and what an entry saves.
-use Rattle.std.proofs.Common.{◌≡◌, ℕ, suc, ◌+◌, ◌^◌, ◌<◌, ◌≤◌, ◌==◌, ◌&&◌, ◌++◌, ◌∷◌, not, nat_le, nat_lt, Bool, true, false, if◌then◌else◌, List, [], length, map, Option, Some, None, is_some, refl, sym, ap, ◌∙◌, subst, arith}
+use Rattle.std.proofs.Common.{◌≡◌, ℕ, suc, ◌+◌, ◌^◌, ◌<◌, ◌==◌, ◌&&◌, ◌++◌, ◌∷◌, nat_lt, Bool, true, false, if◌then◌else◌, List, [], length, map, Option, Some, None, is_some, refl, sym, ap, ◌∙◌, arith}
 use Rattle.std.specs.List.{find, list_all}
 use Rattle.std.proofs.lemmas.Bool.Decides.{nat_tests}
 use Rattle.std.proofs.lemmas.List.Sums.{fold-append}
-use Rattle.std.proofs.lemmas.Option.{none-some}
 use Rattle.ph_attempts.specs.Attempts.{Step}
 use Rattle.ph_attempts.specs.Attempts as step
 use Rattle.ph_attempts.specs.declared.flights.Flight.{Flight}
 use Rattle.ph_base.specs.declared.acquirer.Ruling.{Ruling}
-use Rattle.ph_base.specs.declared.acquirer.Why.{Why}
 use Rattle.ph_calls.specs.declared.call.Call.{Call}
 use Rattle.ph_calls.specs.declared.call.Call.TheVariants as call
 use Rattle.ph_doings.specs.Doings.{Doing, Leaves, Puts, Edits, Begins, Resumes, Parks, Settles}
@@ -22,9 +20,9 @@ use Rattle.ph_http.specs.declared.message.Reply.{Reply}
 use Rattle.ph_idem.specs.declared.asked.Asked.{Asked}
 use Rattle.ph_idem.specs.declared.key_record.KeyRecord.{KeyRecord}
 use Rattle.ph_idem.specs.declared.key_record.Saved.{Saved}
-use Rattle.ph_idem.specs.Kept.{Opening, has_key, is_like, kept_of, opening_of, openings, records_after}
+use Rattle.ph_idem.specs.Kept.{Opening, has_key, is_like, kept_of, opening_of, openings}
 use Rattle.ph_idem.specs.Laws.{saved_under, with_opened, with_settled}
-use Rattle.ph_idem.specs.Records.{is_attached, is_entry, is_newest, opened_record, taken_back, update_first, with_reference, with_result}
+use Rattle.ph_idem.specs.Records.{is_attached, is_entry, is_newest, opened_record, update_first, with_result}
 use Rattle.ph_idem.proofs.OpenLemmas.{AreOpened, are_opened}
 use Rattle.ph_items.specs.declared.intents.CaptureMethod.{CaptureMethod}
 use Rattle.ph_items.specs.declared.orders.Order.{Order}
@@ -40,13 +38,13 @@ use Rattle.ph_book.specs.declared.judged.Judged.TheVariants.{Refused, Accepted}
 use Rattle.ph_book.specs.Called.{asked_if, begun_records, kept_records, opening_weight, record_key, saved_records, saving_of, saving_weight}
 use Rattle.ph_book.specs.Called as called
 use Rattle.ph_book.specs.Calls.{Keys, Upshot, Rejects, Replays, Makes, Shows, Sets, by_found, called_at, carried, is_fresh, key_asked, opens, request_upshot}
-use Rattle.ph_book.specs.Entries.{call_entry, finish_entry, park_entry, resume_entry, tick_entry}
+use Rattle.ph_book.specs.Entries.{call_entry}
 use Rattle.ph_book.specs.History.{Effect, Happening, and_then, call_effect, deed_asks, effect_after, effect_to, happening_of, keys_after, past_of, reply_at, said_briefly, saids_after, saved_said, time_after, turn_of, turns_after}
 use Rattle.ph_book.specs.History as happened
 use Rattle.ph_book.specs.Keys.{asked_in, request_of}
 use Rattle.ph_book.specs.Legal.{IsAllowed, IsLegal, saved_weight}
-use Rattle.ph_book.specs.Replies.{Said, Replies, Waits, Silence}
-use Rattle.ph_book.specs.State.{is_reply_well, is_saved_well, is_status_well, records_of}
+use Rattle.ph_book.specs.Replies.{Said, Replies, Waits}
+use Rattle.ph_book.specs.State.{is_saved_well, is_status_well, records_of}
 use Rattle.ph_book.proofs.HistoryLemmas.{length_past}
 use Rattle.ph_book.proofs.KeyLawLemmas.{legal_turned, said_count, turn_count, turn_time}
 use Rattle.ph_book.proofs.RecordLemmas.{records_more}

@@ -2,7 +2,6 @@
 use Rattle.std.specs.Prelude.{◌≡◌, ℕ, ◌+◌, Bool, true, false, if◌then◌else◌, List, [], ◌∷◌, length, Option, Result, Ok, Err, Some, None, IsSome, is_some}
 use Rattle.ph_errors.specs.declared.refusal.Refusal.{Refusal}
 use Rattle.ph_errors.specs.declared.refusal.Refusal.TheVariants as refusal
-use Rattle.ph_http.specs.declared.message.Raw.{Raw}
 use Rattle.ph_http.specs.declared.message.Reply.{Reply}
 use Rattle.ph_idem.specs.declared.asked.Asked.{Asked}
 use Rattle.ph_doings.specs.Records.{Found}
@@ -29,7 +28,7 @@ use Rattle.ph_book.specs.declared.calls.Called.TheVariants as made
 use Rattle.ph_book.specs.declared.calls.SavedOpening.{SavedOpening}
 use Rattle.ph_book.specs.declared.endings.Saving.{Saving}
 use Rattle.ph_book.specs.Calls.{Keys, Upshot, Rejects, Replays, Makes, Shows, Sets, key_asked, resumed_outcome}
-use Rattle.ph_book.specs.Replies.{Said, Replies, Waits, Silence}
+use Rattle.ph_book.specs.Replies.{Replies, Waits}
 use Rattle.ph_book.specs.History.{Effect, outcome_effect}
 
 -- the record that a call opens to which this is replied, where it opens one of what it asks
