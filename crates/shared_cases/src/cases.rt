@@ -145,10 +145,10 @@ fn shown(alloc: Global, worker: &Worker<MemAcquirer>) -> Outcome {
 
 // A client pays under a key. While its acquirer, which goes by these cues, is asked, a second client sends the same request;
 // when the first has its reply, a third sends it again, and a fourth asks for the payment intent that the first made.
-fn serve_keyed<R: Wait>(
-    rt: &R,
+fn serve_keyed<'a, R: Wait>(
+    rt: &'a R,
     alloc: Global,
-    lock: &Lock<Book>,
+    lock: &'a Lock<Book>,
     first: &mut Pass<Book>,
     cues: &[Cue],
 ) -> Outcome

@@ -56,9 +56,7 @@ impl<'a, R: Wait> Meanwhile<'a, R> {
     }
 
     /// The link that answers, and the client that was served.
-    pub fn into_parts(self) -> (MemAcquirer, Worker<MemAcquirer>)
-        ensures link { result.0 ≡ self }
-    {
+    pub fn into_parts(self) -> (MemAcquirer, Worker<MemAcquirer>) {
         let Meanwhile {
             rt: _,
             alloc: _,
