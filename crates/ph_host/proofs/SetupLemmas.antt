@@ -5,11 +5,11 @@ use Rattle.std.proofs.lemmas.Bool.Decides.{nat_tests}
 use Rattle.ph_base.specs.Numbers.{number_in}
 use Rattle.ph_items.specs.Clocks.{clock_limit}
 use Rattle.ph_book.specs.Legal.{IsLegal}
-use Rattle.ph_host.specs.Options.{if_shown, moment_in}
+use Rattle.ph_host.specs.Options.{if_between, moment_in}
 use Rattle.ph_host.specs.Runs.{new_book}
 use Rattle.ph_host.specs.Setups.{given_in}
 
-shown : (o : Option ℕ) → unwrap_or (if_shown o) 1700000000 ≤ clock_limit
+shown : (o : Option ℕ) → unwrap_or (if_between 0 clock_limit o) 1700000000 ≤ clock_limit
 shown None = omega arith
 shown (Some moment) = at (nat_le moment clock_limit) refl
   where

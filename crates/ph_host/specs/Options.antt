@@ -16,24 +16,6 @@ is_api_key value =
     nat_le 9 (length value) && nat_le (length value) 255 && bytes_eq (take 8 value) (codes "sk_test_")
     && list_all is_visible value
 
--- a moment, where a clock shows it
-abbrev pub if_shown : Option ℕ → Option ℕ
-if_shown None = None
-if_shown (Some moment) = if nat_le moment clock_limit then Some moment else None
-
--- the moment that a text is, in decimal seconds since 1970
-abbrev pub moment_in : List ℕ → Option ℕ
-moment_in value = if_shown (number_in value)
-
--- so many polls, where a patience grants as many
-abbrev pub if_granted : Option ℕ → Option ℕ
-if_granted None = None
-if_granted (Some polls) = if nat_le polls 1000000 then Some polls else None
-
--- the patience that a text is, in further polls of a drive
-abbrev pub patience_in : List ℕ → Option ℕ
-patience_in value = if_granted (number_in value)
-
 -- so many, where it lies between these two
 abbrev pub if_between : ℕ → ℕ → Option ℕ → Option ℕ
 if_between least most None = None
@@ -42,6 +24,14 @@ if_between least most (Some number) = if nat_le least number && nat_le number mo
 -- the number that a text is, in decimal, where it lies between these two
 abbrev pub number_between : ℕ → ℕ → List ℕ → Option ℕ
 number_between least most value = if_between least most (number_in value)
+
+-- the moment that a text is, in seconds since 1970, where a clock shows it
+abbrev pub moment_in : List ℕ → Option ℕ
+moment_in value = number_between 0 clock_limit value
+
+-- the patience that a text is, in further polls of a drive
+abbrev pub patience_in : List ℕ → Option ℕ
+patience_in value = number_between 0 1000000 value
 
 -- the port that a text is
 abbrev pub port_in : List ℕ → Option ℕ

@@ -110,28 +110,19 @@ fn are_visible(value: &[u8]) -> bool
     value.iter().all(|b| b'!' <= *b && *b <= b'~')
 }
 
-/// The moment that a value is, in decimal seconds since 1970, where a clock shows it.
+/// The moment that a value is, in decimal seconds since 1970, from 0 to the last one that a clock shows.
 pub fn moment_in(value: &[u8]) -> Option<u64>
     ensures { result ≡ moment_in value.now }
 {
-    let moment = read_number(value)?;
-    if moment <= CLOCK_LIMIT {
-        Some(moment)
-    } else {
-        None
-    }
+    number_between(0, CLOCK_LIMIT, value)
 }
 
-/// The patience that a value is: how many further polls it grants, in decimal, at most 1,000,000.
+/// The patience that a value is: how many further polls it grants, in decimal, from 0 to 1,000,000.
 pub fn patience_in(value: &[u8]) -> Option<u32>
     ensures { result ≡ patience_in value.now }
 {
-    let polls = read_number(value)?;
-    if polls <= MOST_POLLS {
-        Some(polls as u32)
-    } else {
-        None
-    }
+    let polls = number_between(0, MOST_POLLS, value)?;
+    Some(polls as u32)
 }
 
 // The number that a value is, in decimal, where it lies between these two.
