@@ -8,6 +8,7 @@ use Rattle.ph_book.specs.Legal.{IsLegal}
 use Rattle.ph_host.specs.Options.{if_between, moment_in}
 use Rattle.ph_host.specs.Runs.{new_book}
 use Rattle.ph_host.specs.Setups.{given_in}
+use Rattle.ph_host.specs.declared.option_names.OptionName.TheVariants.{Clock}
 
 shown : (o : Option ℕ) → unwrap_or (if_between 0 clock_limit o) 1700000000 ≤ clock_limit
 shown None = omega arith
@@ -23,4 +24,4 @@ opened_shown (Some text) = shown (number_in text)
 
 -- a book without entries is legal
 pub new_legal : (words : List (List ℕ)) → IsLegal (new_book words).setup (new_book words).history
-new_legal words = record { opened = opened_shown (given_in (codes "--clock") words); allowed = tt }
+new_legal words = record { opened = opened_shown (given_in Clock words); allowed = tt }

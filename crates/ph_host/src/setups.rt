@@ -4,6 +4,7 @@ ghost use Rattle.ph_items.specs.Clocks.{clock_limit};
 ghost use Rattle.ph_host.specs.Runs.{new_book};
 ghost use Rattle.ph_host.specs.Setups.{key_of, opened_of};
 
+use crate::option_names::OptionName;
 use crate::options::{given, moment_in};
 use ph_base::{Bytes, NoMemory};
 use ph_book::{Book, Setup};
@@ -45,7 +46,7 @@ pub fn options(words: &[Bytes]) -> &[Bytes]
 fn key(alloc: Global, words: &[Bytes]) -> Result<Bytes, NoMemory>
     ensures { IfOk result (λ key. key ≡ key_of words.now) }
 {
-    match given(b"--key", options(words)) {
+    match given(OptionName::Key.word(), options(words)) {
         Some(value) => Bytes::from_slice(alloc, value),
         None => Bytes::from_slice(alloc, b"sk_test_payhost"),
     }
@@ -56,7 +57,7 @@ fn opened(words: &[Bytes]) -> u64
     ensures value { result ≡ opened_of words.now }
     ensures shown { result ≤ clock_limit }
 {
-    match given(b"--clock", options(words)) {
+    match given(OptionName::Clock.word(), options(words)) {
         Some(value) => moment_in(value).unwrap_or(OPENED),
         None => OPENED,
     }
