@@ -1,6 +1,6 @@
 -- A line as it is written: word by word, each with what comes behind it.
 use Rattle.std.specs.Fmt.{signed_decimal}
-use Rattle.std.proofs.Common.{◌≡◌, ℕ, ℤ, List, ◌++◌, codes, decimal, Result, ap, ◌∙◌, append_assoc, subst}
+use Rattle.std.proofs.Common.{◌≡◌, ℕ, ℤ, List, ◌++◌, codes, decimal, Result, sym, ap, ◌∙◌, append_assoc, subst}
 use Rattle.std.specs.Bool.{⊤}
 use Rattle.ph_io.specs.Told.{SinkState}
 use Rattle.ph_io.specs.declared.sink.WriteFailed.{WriteFailed}
@@ -10,22 +10,27 @@ use Rattle.ph_drill.specs.Lines.{Writes, balance_line, count_line}
 abbrev pub word_and : List ℕ → List ℕ → List ℕ
 word_and word behind = word ++ behind
 
+word_more : (before word behind : List ℕ) → before ++ word_and word behind ≡ before ++ word ++ behind
+word_more before word behind = sym (append_assoc before word behind)
+
 pub count_words : (word : List ℕ) (number : ℕ) → word_and word (codes " ") ++ word_and (decimal number) (codes "\n") ≡ count_line word number
-count_words word number = append_assoc word (codes " ") (decimal number ++ codes "\n")
+count_words word number = word_more (word ++ codes " ") (decimal number) (codes "\n")
 
 pub balance_words : (account code : List ℕ) (available pending : ℤ)
     → word_and (codes "balance") (codes " ") ++ word_and account (codes " ") ++ word_and code (codes " ") ++ word_and (signed_decimal available) (codes " ")
     ++ word_and (signed_decimal pending) (codes "\n")
     ≡ balance_line account code available pending
 balance_words account code available pending =
-    let last : List ℕ = signed_decimal pending ++ codes "\n" in
-    let third : List ℕ = word_and (signed_decimal available) (codes " ") ++ last in
-    let from_code : List ℕ = word_and code (codes " ") ++ third in
-    ap (λ (rest : List ℕ). codes "balance " ++ rest) (append_assoc account (codes " ") from_code)
-    ∙ ap (λ (rest : List ℕ). codes "balance " ++ account ++ codes " " ++ rest) (append_assoc code (codes " ") third)
-    ∙ ap (λ (rest : List ℕ). codes "balance " ++ account ++ codes " " ++ code ++ codes " " ++ rest) (append_assoc (signed_decimal available) (codes " ") last)
+    let third : List ℕ = word_and (signed_decimal available) (codes " ") in
+    let last : List ℕ = word_and (signed_decimal pending) (codes "\n") in
+    let to_account : List ℕ = codes "balance " ++ account ++ codes " " in
+    let to_code : List ℕ = to_account ++ code ++ codes " " in
+    ap (λ (front : List ℕ). front ++ word_and code (codes " ") ++ third ++ last) (word_more (codes "balance ") account (codes " "))
+    ∙ ap (λ (front : List ℕ). front ++ third ++ last) (word_more to_account code (codes " "))
+    ∙ ap (λ (front : List ℕ). front ++ last) (word_more to_code (signed_decimal available) (codes " "))
+    ∙ word_more (to_code ++ signed_decimal available ++ codes " ") (signed_decimal pending) (codes "\n")
 
--- a text under another name
-pub writes_as : {old new : SinkState} (text other : List ℕ) (result : Result ⊤ WriteFailed) → text ≡ other → Writes old new text result
+-- the same of a text that is said otherwise
+pub writes_as : (old new : SinkState) (text other : List ℕ) (result : Result ⊤ WriteFailed) → text ≡ other → Writes old new text result
     → Writes old new other result
-writes_as {old} {new} text other result same wrote = subst (λ t. Writes old new t result) same wrote
+writes_as old new text other result same wrote = subst (λ t. Writes old new t result) same wrote

@@ -10,7 +10,7 @@ use Rattle.ph_drill.proofs.lines.write_balance.Goals as goal
 pub returns-in_err-write_word : goal.returns-in_err-write_word
 returns-in_err-write_word g c =
     let p = err_from_is_err_and c.from_residual.result c.from_residual.ensures.1 in
-    writes_as _ _ c.from_residual.result (balance_words c.args.account.now c.args.code.now c.args.available c.args.pending)
+    writes_as _ _ _ _ c.from_residual.result (balance_words c.args.account.now c.args.code.now c.args.available c.args.pending)
     (writes_err _ p.0 p.1
     (front_of_more (word_and (signed_decimal c.args.pending) (codes "\n"))
     (front_of_more (word_and (signed_decimal c.args.available) (codes " "))
@@ -20,7 +20,7 @@ returns-in_err-write_word g c =
 pub returns-in_err-write_word-2 : goal.returns-in_err-write_word-2
 returns-in_err-write_word-2 g c =
     let p = err_from_is_err_and c.from_residual-in_err-write_word-2.result c.from_residual-in_err-write_word-2.ensures.1 in
-    writes_as _ _ c.from_residual-in_err-write_word-2.result (balance_words c.args.account.now c.args.code.now c.args.available c.args.pending)
+    writes_as _ _ _ _ c.from_residual-in_err-write_word-2.result (balance_words c.args.account.now c.args.code.now c.args.available c.args.pending)
     (writes_err _ p.0 p.1
     (front_of_more (word_and (signed_decimal c.args.pending) (codes "\n"))
     (front_of_more (word_and (signed_decimal c.args.available) (codes " "))
@@ -30,7 +30,7 @@ returns-in_err-write_word-2 g c =
 pub returns-in_err-write_word-3 : goal.returns-in_err-write_word-3
 returns-in_err-write_word-3 g c =
     let p = err_from_is_err_and c.from_residual-in_err-write_word-3.result c.from_residual-in_err-write_word-3.ensures.1 in
-    writes_as _ _ c.from_residual-in_err-write_word-3.result (balance_words c.args.account.now c.args.code.now c.args.available c.args.pending)
+    writes_as _ _ _ _ c.from_residual-in_err-write_word-3.result (balance_words c.args.account.now c.args.code.now c.args.available c.args.pending)
     (writes_err _ p.0 p.1
     (front_of_more (word_and (signed_decimal c.args.pending) (codes "\n"))
     (front_of_more (word_and (signed_decimal c.args.available) (codes " "))
@@ -41,7 +41,7 @@ returns-in_err-write_number g c =
     let p = err_from_is_err_and c.from_residual-in_err-write_number.result c.from_residual-in_err-write_number.ensures.1 in
     let available = to_z-of_z w64 c.args.available c.ranges.available in
     let last = rw available at c.in_err-write_number.ensures in
-    writes_as _ _ c.from_residual-in_err-write_number.result (balance_words c.args.account.now c.args.code.now c.args.available c.args.pending)
+    writes_as _ _ _ _ c.from_residual-in_err-write_number.result (balance_words c.args.account.now c.args.code.now c.args.available c.args.pending)
     (writes_err _ p.0 p.1
     (front_of_more (word_and (signed_decimal c.args.pending) (codes "\n"))
     (takes_then_front (takes_twice (takes_twice c.in_ok-write_word.ensures c.in_ok-write_word-2.ensures) c.in_ok-write_word-3.ensures) last)))
@@ -52,6 +52,6 @@ returns g c =
     let pending = to_z-of_z w64 c.args.pending c.ranges.pending in
     let fourth = rw available at c.in_ok-write_number.ensures in
     let last = rw pending at c.write_number-2.ensures in
-    writes_as _ _ c.write_number-2.result (balance_words c.args.account.now c.args.code.now c.args.available c.args.pending)
+    writes_as _ _ _ _ c.write_number-2.result (balance_words c.args.account.now c.args.code.now c.args.available c.args.pending)
     (writes_then _ _ c.write_number-2.result
     (takes_twice (takes_twice (takes_twice c.in_ok-write_word.ensures c.in_ok-write_word-2.ensures) c.in_ok-write_word-3.ensures) fourth) last)
