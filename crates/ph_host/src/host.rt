@@ -35,7 +35,6 @@ const LIMIT: u32 = 100_000;
 /// | 5 | the input ended within a request |
 /// | 6 | there was no memory |
 /// | 9 | the history had no room for a request |
-#[tactic(auto, using(crate::proofs::KeyLemmas::key_laws_of_words))]
 pub fn run_once<S: Source, K: Sink, A: Acquirer, P: Patience>(
     alloc: Global,
     words: &[Bytes],
