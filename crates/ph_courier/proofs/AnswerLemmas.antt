@@ -38,9 +38,17 @@ pub heard_head :
     length bytes ≤ answer_limit → HasStatus bytes status → Listens old new (outcome_of status)
 heard_head {old} {new} {bytes} {status} moved short has = inl (record {
   bytes = bytes;
-  heard = inr (moved, λ more. inl (status,
-      (subst (λ first. HasStatus first status) (sym (first_bytes bytes more short))
-          (status_stays (take (answer_limit - length bytes) more) has), refl)));
+  heard = inr (
+    moved,
+    λ more. inl (
+      status,
+      (
+        subst (λ first. HasStatus first status) (sym (first_bytes bytes more short))
+            (status_stays (take (answer_limit - length bytes) more) has),
+        refl,
+      ),
+    ),
+  );
 })
 
 -- bytes that have none say so where the answer ends behind them
@@ -50,8 +58,10 @@ pub heard_end :
     Listens old new (outcome.Refused 0)
 heard_end {old} {between} {new} {bytes} moved ended short none = inl (record {
   bytes = bytes;
-  heard = inl (moves_then_ends moved ended,
-      inr (subst HasNoStatus (sym (take_all answer_limit bytes short)) none, refl));
+  heard = inl (
+    moves_then_ends moved ended,
+    inr (subst HasNoStatus (sym (take_all answer_limit bytes short)) none, refl),
+  );
 })
 
 -- and where they are as many as are looked at
@@ -60,9 +70,15 @@ pub heard_all :
     length bytes ≡ answer_limit → HasNoStatus bytes → Listens old new (outcome.Refused 0)
 heard_all {old} {new} {bytes} moved long none = inl (record {
   bytes = bytes;
-  heard = inr (moved, λ more. inr (subst HasNoStatus
-      (sym (take-append-le answer_limit bytes more (omega arith) ∙ take_all answer_limit bytes (omega arith)))
-      none, refl));
+  heard = inr (
+    moved,
+    λ more. inr (
+      subst HasNoStatus
+          (sym (take-append-le answer_limit bytes more (omega arith) ∙ take_all answer_limit bytes (omega arith)))
+          none,
+      refl,
+    ),
+  );
 })
 
 -- a read that fails cuts it off

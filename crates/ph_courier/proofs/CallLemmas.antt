@@ -21,9 +21,10 @@ says_neither :
     (bytes : List ℕ) (said : Outcome) → Says bytes said →
     (¬ (said ≡ outcome.Unreached)) × (¬ (said ≡ outcome.Dropped))
 says_neither bytes said (inl (status, (has, same))) = said_by_status status said same
-says_neither bytes said (inr (none, same)) =
-    (λ h. let never : outcome.Refused 0 ≡ outcome.Unreached = sym same ∙ h in cc,
-    λ h. let never : outcome.Refused 0 ≡ outcome.Dropped = sym same ∙ h in cc)
+says_neither bytes said (inr (none, same)) = (
+  λ h. let never : outcome.Refused 0 ≡ outcome.Unreached = sym same ∙ h in cc,
+  λ h. let never : outcome.Refused 0 ≡ outcome.Dropped = sym same ∙ h in cc,
+)
 
 -- nor is what was heard
 hears_neither :
@@ -57,7 +58,7 @@ pub unreached_why :
 unreached_why (inl undialed) same = inl undialed.failed.counted
 unreached_why {old} {new} (inr call) same =
     inr (subst (λ before. Rose before new.broken) call.dialed.broken
-        (counted_as_broken call.back (broke call.ended same) call.hung_up))
+    (counted_as_broken call.back (broke call.ended same) call.hung_up))
 
 -- and it is never dropped
 pub never_dropped :

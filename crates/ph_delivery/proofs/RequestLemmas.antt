@@ -8,6 +8,6 @@ pub carried :
     ≡ (target ++ plain) ++ name ++ value ++ end ++ lengths ++ body
 carried target plain name value end lengths body =
     ap (λ line. target ++ plain ++ line)
-        (append_assoc name (value ++ end) (lengths ++ body)
-        ∙ ap (λ rest. name ++ rest) (append_assoc value end (lengths ++ body)))
+    (append_assoc name (value ++ end) (lengths ++ body)
+    ∙ ap (λ rest. name ++ rest) (append_assoc value end (lengths ++ body)))
     ∙ sym (append_assoc target plain (name ++ value ++ end ++ lengths ++ body))

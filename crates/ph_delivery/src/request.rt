@@ -7,7 +7,13 @@ use ph_sign::{header, header_is_good};
 use std::alloc::Global;
 
 // The request line and the line of the host.
-fn push_target(out: &mut Vec<u8>, alloc: Global, host: &[u8], port: u16, path: &[u8]) -> Result<(), NoMemory>
+fn push_target(
+    out: &mut Vec<u8>,
+    alloc: Global,
+    host: &[u8],
+    port: u16,
+    path: &[u8],
+) -> Result<(), NoMemory>
     ensures { OnOk result (out.new.items ≡ out.old.items ++ target_lines host.now port path.now) }
 {
     let number = port.to_string(alloc)?;
@@ -23,7 +29,13 @@ fn push_target(out: &mut Vec<u8>, alloc: Global, host: &[u8], port: u16, path: &
 }
 
 // The line of the signatures, at the moment `at`.
-fn push_signature(out: &mut Vec<u8>, alloc: Global, secrets: &[Bytes], at: u64, body: &[u8]) -> Result<(), NoMemory>
+fn push_signature(
+    out: &mut Vec<u8>,
+    alloc: Global,
+    secrets: &[Bytes],
+    at: u64,
+    body: &[u8],
+) -> Result<(), NoMemory>
     ensures { OnOk result (out.new.items ≡ out.old.items ++ signature_line secrets.now at body.now) }
 {
     let signatures = header(alloc, secrets, at, body)?;

@@ -11,12 +11,12 @@ use Rattle.ph_dial.specs.MemDialers.{dialed_as}
 pub tells_pushed :
     (returned : List MemDuplexState) (conn : MemDuplexState) →
     Tells (is_broken (dialed_as conn)) (count_by is_broken (map dialed_as returned))
-        (count_by is_broken (map dialed_as (returned ++ conn ∷ [])))
+    (count_by is_broken (map dialed_as (returned ++ conn ∷ [])))
 tells_pushed returned conn =
     at (is_broken (dialed_as conn)) (count_by is_broken (map dialed_as returned))
-        (count_by is_broken (map dialed_as (returned ++ conn ∷ [])))
-        (ap (count_by is_broken) (map_push dialed_as returned conn)
-        ∙ sum_by_push (λ back. cond (is_broken back) 1 0) (map dialed_as returned) (dialed_as conn)) where
+    (count_by is_broken (map dialed_as (returned ++ conn ∷ [])))
+    (ap (count_by is_broken) (map_push dialed_as returned conn)
+    ∙ sum_by_push (λ back. cond (is_broken back) 1 0) (map dialed_as returned) (dialed_as conn)) where
       at : (broken : Bool) (old new : ℕ) → new ≡ old + cond broken 1 0 → Tells broken old new
       at true old new more = (omega arith, omega arith)
       at false old new more = omega arith

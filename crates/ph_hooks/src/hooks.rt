@@ -137,7 +137,8 @@ impl Hooks {
     /// takes no memory.
     pub fn renew(&mut self, number: u64, delivery: Delivery)
         ensures { self.new ≡ record self.old {
-            deliveries = all_renewed number delivery self.old.deliveries } }
+          deliveries = all_renewed number delivery self.old.deliveries;
+        } }
     {
         renew(&mut self.deliveries, number, delivery);
     }

@@ -5,11 +5,10 @@ ghost use Rattle.ph_net.specs.Forms.{TcpDialerState, undialed, unused, told_by_d
 use crate::timed_duplex::{TimedDuplex, time_left};
 use ph_base::Bytes;
 use ph_dial::{DialFailed, Dialer};
-use std::io;
 use std::marker::Model;
 use std::net::{Net, TcpStream, ToSocketAddrs};
-use std::str;
 use std::time::{Clock, Duration, Instant};
+use std::{io, str};
 
 /// Opens connections over TCP, and closes each that comes back. Connecting has a limit of time, and
 /// so have, from then on, all reads and writes of the connection together; a limit that runs out is

@@ -52,7 +52,7 @@ SignsBody old new secret t (Err fault) status = Refuses old new fault status
 abbrev pub VerifiesBody : SinkState → SinkState → List ℕ → List ℕ → ℕ → ℕ → Result (List ℕ) BodyFault → ℕ → Type 0
 VerifiesBody old new secret header now tolerance (Ok body) status =
     Prints old new (line (word_of (verdict_of header secret body now tolerance)))
-        (status_of (verdict_of header secret body now tolerance)) status
+    (status_of (verdict_of header secret body now tolerance)) status
 VerifiesBody old new secret header now tolerance (Err fault) status = Refuses old new fault status
 
 -- the body was read, or not, and its header was written

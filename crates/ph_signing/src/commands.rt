@@ -66,7 +66,13 @@ fn header_line(alloc: Global, secret: &Bytes, t: u64, body: &[u8]) -> Result<Vec
 }
 
 // Writes the header of the body that the input gives.
-fn run_sign<S: Source, K: Sink>(alloc: Global, secret: &Bytes, t: u64, input: &mut S, output: &mut K) -> u8
+fn run_sign<S: Source, K: Sink>(
+    alloc: Global,
+    secret: &Bytes,
+    t: u64,
+    input: &mut S,
+    output: &mut K,
+) -> u8
     ensures { Signs secret.now t (S.source input.old) (S.source input.new) (K.sink output.old) (K.sink output.new) result }
 {
     match gather(alloc, input) {
@@ -136,11 +142,14 @@ pub fn run<S: Source, K: Sink>(
             Some(t) => Some(run_sign(alloc, secret, t, input, output)),
             None => None,
         },
-        [word, secret, header, now, tolerance] =>
-            match verify_times(word.as_slice(), now.as_slice(), tolerance.as_slice()) {
-                Some(times) => Some(run_verify(alloc, secret, header, times, input, output)),
-                None => None,
-            },
+        [word, secret, header, now, tolerance] => match verify_times(
+            word.as_slice(),
+            now.as_slice(),
+            tolerance.as_slice(),
+        ) {
+            Some(times) => Some(run_verify(alloc, secret, header, times, input, output)),
+            None => None,
+        },
         [] | [_] | [_, _] | [_, _, _, _] | [_, _, _, _, _, _, ..] => None,
     }
 }

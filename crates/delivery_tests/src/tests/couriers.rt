@@ -14,17 +14,20 @@ use std::test::Fail;
 /// Python's `hmac`.
 const BODY: &[u8] = b"{\"id\":\"evt_0000000000000004\"}";
 
-/// A dialer of one far end that gives this answer in pieces of 7 bytes, and of which the reads and
-/// writes of these numbers fail. A write takes at most 64 bytes.
+/// A dialer of one far end that gives this answer in pieces of at most so many bytes, and of which the
+/// reads and writes of these numbers fail. A write takes at most 64 bytes.
 fn far_end(
     alloc: Global,
     answer: &[u8],
+    most: usize,
     reads: &[u64],
     writes: &[u64],
-) -> Result<MemDialer, Fail> {
+) -> Result<MemDialer, Fail>
+    requires { 0 < most }
+{
     let source = MemSource::new(
         Vec::from_slice(alloc, answer)?,
-        7,
+        most,
         Vec::from_slice(alloc, reads)?,
     );
     let sink = MemSink::new(alloc, 64, Vec::from_slice(alloc, writes)?);
@@ -43,9 +46,11 @@ fn outcome(alloc: Global, dialer: &mut MemDialer) -> Result<Outcome, Fail> {
     Ok(outcome)
 }
 
-/// What becomes of a request that is answered so.
-fn answered(alloc: Global, answer: &[u8]) -> Result<Outcome, Fail> {
-    let mut dialer = far_end(alloc, answer, &[], &[])?;
+/// What becomes of a request that is answered so, in pieces of at most so many bytes.
+fn answered(alloc: Global, answer: &[u8], most: usize) -> Result<Outcome, Fail>
+    requires { 0 < most }
+{
+    let mut dialer = far_end(alloc, answer, most, &[], &[])?;
     outcome(alloc, &mut dialer)
 }
 
@@ -80,19 +85,31 @@ fn the_request_has_its_lines_and_its_signature(rt: HostRuntime) -> Result<(), Fa
 fn an_answer_says_what_became_of_it(rt: HostRuntime) -> Result<(), Fail> {
     let alloc = rt.alloc();
     let rows = [
-        (b"HTTP/1.1 200 OK\r\nContent-Length: 2\r\n\r\nok".as_slice(), Outcome::Accepted),
+        (
+            b"HTTP/1.1 200 OK\r\nContent-Length: 2\r\n\r\nok".as_slice(),
+            Outcome::Accepted,
+        ),
         (b"HTTP/1.1 204\r\n\r\n", Outcome::Accepted),
         (b"HTTP/1.0 299 Odd\r\n\r\n", Outcome::Accepted),
         (b"HTTP/1.1 199 Odd\r\n\r\n", Outcome::Refused(199)),
-        (b"HTTP/1.1 300 Multiple Choices\r\n\r\n", Outcome::Refused(300)),
-        (b"HTTP/1.1 500 Internal Server Error\r\n\r\n", Outcome::Refused(500)),
-        (b"HTTP/1.1 100 Continue\r\n\r\nHTTP/1.1 200 OK\r\n\r\n", Outcome::Refused(100)),
+        (
+            b"HTTP/1.1 300 Multiple Choices\r\n\r\n",
+            Outcome::Refused(300),
+        ),
+        (
+            b"HTTP/1.1 500 Internal Server Error\r\n\r\n",
+            Outcome::Refused(500),
+        ),
+        (
+            b"HTTP/1.1 100 Continue\r\n\r\nHTTP/1.1 200 OK\r\n\r\n",
+            Outcome::Refused(100),
+        ),
         (b"HTTP/1.1 200 OK\r\n", Outcome::Refused(0)),
         (b"not a head", Outcome::Refused(0)),
         (b"", Outcome::Refused(0)),
     ];
     for (answer, expected) in &rows {
-        assert_eq!(rt; answered(alloc, answer)?, *expected);
+        assert_eq!(rt; answered(alloc, answer, 7)?, *expected);
     }
     Ok(())
 }
@@ -113,8 +130,8 @@ fn a_head_of_over_16384_bytes_is_none(rt: HostRuntime) -> Result<(), Fail> {
     let fits = long_answer(alloc, 16_384)?;
     let over = long_answer(alloc, 16_385)?;
     assert_eq!(rt; fits.len(), 16_384);
-    assert_eq!(rt; answered(alloc, &fits)?, Outcome::Accepted);
-    assert_eq!(rt; answered(alloc, &over)?, Outcome::Refused(0));
+    assert_eq!(rt; answered(alloc, &fits, 5000)?, Outcome::Accepted);
+    assert_eq!(rt; answered(alloc, &over, 5000)?, Outcome::Refused(0));
     Ok(())
 }
 
@@ -122,15 +139,15 @@ fn a_head_of_over_16384_bytes_is_none(rt: HostRuntime) -> Result<(), Fail> {
 fn a_connection_that_fails_leaves_it_unreached(rt: HostRuntime) -> Result<(), Fail> {
     let alloc = rt.alloc();
     let answer = b"HTTP/1.1 200 OK\r\n\r\n".as_slice();
-    let mut unread = far_end(alloc, answer, &[1], &[])?;
+    let mut unread = far_end(alloc, answer, 7, &[1], &[])?;
     assert_eq!(rt; outcome(alloc, &mut unread)?, Outcome::Unreached);
-    let mut unwritten = far_end(alloc, answer, &[], &[0])?;
+    let mut unwritten = far_end(alloc, answer, 7, &[], &[0])?;
     assert_eq!(rt; outcome(alloc, &mut unwritten)?, Outcome::Unreached);
     // The far end was handed back, and no other is left.
     assert_eq!(rt; unwritten.returned().len(), 1);
     assert_eq!(rt; outcome(alloc, &mut unwritten)?, Outcome::Unreached);
     // A read that would fail behind the head isn't made.
-    let mut heard = far_end(alloc, answer, &[3], &[])?;
+    let mut heard = far_end(alloc, answer, 7, &[3], &[])?;
     assert_eq!(rt; outcome(alloc, &mut heard)?, Outcome::Accepted);
     Ok(())
 }
@@ -147,7 +164,11 @@ fn tried(delivery: Delivery, outcome: Outcome, at: u64) -> Delivery
 fn a_delivery_that_was_refused_is_sent_again(rt: HostRuntime) -> Result<(), Fail> {
     let mut hooks = Hooks::new(rt.alloc());
     let mut delivery = Delivery::begun(1_700_000_000);
-    hooks.add(Waiting { number: 5, endpoint: 2, delivery })?;
+    hooks.add(Waiting {
+        number: 5,
+        endpoint: 2,
+        delivery,
+    })?;
     assert_eq!(rt; hooks.due(1_699_999_999), None);
     assert_eq!(rt; hooks.due(1_700_000_000), Some(5));
     hooks.renew(5, delivery.taken());
@@ -167,7 +188,12 @@ fn a_delivery_that_was_refused_is_sent_again(rt: HostRuntime) -> Result<(), Fail
 #[test]
 fn a_delivery_is_given_up_after_the_fourth_attempt(rt: HostRuntime) -> Result<(), Fail> {
     let mut delivery = Delivery::begun(0);
-    let moments = [(0, Some(60)), (60, Some(3_660)), (3_660, Some(14_460)), (14_460, None)];
+    let moments = [
+        (0, Some(60)),
+        (60, Some(3_660)),
+        (3_660, Some(14_460)),
+        (14_460, None),
+    ];
     for (at, next) in &moments {
         assert_eq!(rt; delivery.due(), Some(*at));
         if delivery.tries < 4 && *at < 20_000 {
@@ -184,7 +210,11 @@ fn a_delivery_is_given_up_after_the_fourth_attempt(rt: HostRuntime) -> Result<()
 fn the_first_due_is_by_moment_and_number(rt: HostRuntime) -> Result<(), Fail> {
     let mut hooks = Hooks::new(rt.alloc());
     for (number, endpoint, at) in [(7, 3, 20), (5, 2, 20), (9, 2, 10), (4, 2, 30)] {
-        hooks.add(Waiting { number, endpoint, delivery: Delivery::begun(at) })?;
+        hooks.add(Waiting {
+            number,
+            endpoint,
+            delivery: Delivery::begun(at),
+        })?;
     }
     assert_eq!(rt; hooks.due(9), None);
     assert_eq!(rt; hooks.due(10), Some(9));

@@ -49,7 +49,12 @@ fn a_body_is_signed(rt: HostRuntime) -> Result<(), Fail> {
 fn a_header_is_judged(rt: HostRuntime) -> Result<(), Fail> {
     let alloc = rt.alloc();
     let rows = [
-        (b"1700000300 300".as_slice(), b"Hi There".as_slice(), 0, b"good\n".as_slice()),
+        (
+            b"1700000300 300".as_slice(),
+            b"Hi There".as_slice(),
+            0,
+            b"good\n".as_slice(),
+        ),
         (b"1700000301 300", b"Hi There", 1, b"old\n"),
         (b"1700000300 300", b"Hi there", 1, b"mismatch\n"),
     ];

@@ -3,7 +3,9 @@ ghost use Rattle.std.specs.Prelude.{◌<◌, length};
 
 use ph_base::Bytes;
 use ph_dial::{DialFailed, Dialer, FarEnd, MemDialer};
-use ph_io::{End, Gate, GateFailed, MemSink, MemSource, ReadFailed, Sink, Source, WriteFailed, write_all};
+use ph_io::{
+    End, Gate, GateFailed, MemSink, MemSource, ReadFailed, Sink, Source, WriteFailed, write_all,
+};
 use ph_net::{Port, TcpDialer};
 use std::alloc::Global;
 use std::test::Fail;
@@ -25,7 +27,13 @@ fn add(alloc: Global, dialer: &mut MemDialer, bytes: &[u8], reads: &[u64]) -> Re
 
 /// Dials, writes these bytes, reads once, and hangs up. Answers how many bytes came, or none where
 /// the dial or the read failed.
-fn exchange<D: Dialer>(dialer: &mut D, host: &Bytes, port: u16, bytes: &[u8], room: &mut [u8]) -> Option<usize>
+fn exchange<D: Dialer>(
+    dialer: &mut D,
+    host: &Bytes,
+    port: u16,
+    bytes: &[u8],
+    room: &mut [u8],
+) -> Option<usize>
     requires { 0 < length room.old }
 {
     match dialer.dial(host, port) {
@@ -49,7 +57,10 @@ fn a_dialer_in_memory_gives_its_far_ends_in_order(rt: HostRuntime) -> Result<(),
     add(alloc, &mut dialer, b"first", &[])?;
     add(alloc, &mut dialer, b"second", &[0])?;
     let mut room = [0u8; 8];
-    assert_eq!(rt; exchange(&mut dialer, &host, 80, b"one", &mut room), Some(5));
+    assert_eq!(rt;
+        exchange(&mut dialer, &host, 80, b"one", &mut room),
+        Some(5)
+    );
     assert_eq!(rt; room[..5], b"first"[..]);
     // The dial of the number 1 fails, and keeps the far end for the next.
     assert_eq!(rt; exchange(&mut dialer, &host, 80, b"two", &mut room), None);
