@@ -10,8 +10,8 @@ use ph_io::{MemSink, MemSource};
 use std::alloc::Global;
 use std::test::Fail;
 
-/// The body of an event, and its signature at 1700000000 under `whsec_test_0000000000000002`, made with
-/// Python's `hmac`.
+/// The body of an event. Its signatures below, at 1700000000 under `whsec_test_0000000000000002` and
+/// `whsec_test_0000000000000003`, were made with Python's `hmac`.
 const BODY: &[u8] = b"{\"id\":\"evt_0000000000000004\"}";
 
 /// A dialer of one far end that gives this answer in pieces of at most so many bytes, and of which the
@@ -59,6 +59,7 @@ fn the_request_has_its_lines_and_its_signature(rt: HostRuntime) -> Result<(), Fa
     let alloc = rt.alloc();
     let mut secrets = Vec::new(alloc);
     secrets.push(Bytes::from_slice(alloc, b"whsec_test_0000000000000002")?)?;
+    secrets.push(Bytes::from_slice(alloc, b"whsec_test_0000000000000003")?)?;
     let request = delivery_request(
         alloc,
         b"127.0.0.1",
@@ -72,7 +73,7 @@ fn the_request_has_its_lines_and_its_signature(rt: HostRuntime) -> Result<(), Fa
         Host: 127.0.0.1:9000\r\n\
         User-Agent: payhost\r\n\
         Content-Type: application/json\r\n\
-        Stripe-Signature: t=1700000000,v1=f44f7aa002d16c2e0c6101af95747214b4f07e0e2672751d4aa501033402e8e9\r\n\
+        Stripe-Signature: t=1700000000,v1=f44f7aa002d16c2e0c6101af95747214b4f07e0e2672751d4aa501033402e8e9,v1=d6d6e856cec6b5a8eba2a5e9f23b9f5fa39e4f976226dc8945e32af9c80c0c1a\r\n\
         Content-Length: 29\r\n\
         Connection: close\r\n\
         \r\n\
