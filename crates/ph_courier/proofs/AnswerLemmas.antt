@@ -1,15 +1,27 @@
 -- What the first bytes of an answer say, and what follows them.
-use Rattle.std.proofs.Common.{◌≡◌, ℕ, ◌-◌, ◌≤◌, List, [], ◌++◌, length, take, inl, inr, refl, sym, ap, subst, ◌∙◌, arith, take_all}
-use Rattle.std.proofs.lemmas.List.{take-append-le}
+use Rattle.std.proofs.Common.{◌≡◌, ℕ, ◌+◌, ◌-◌, ◌≤◌, List, [], ◌++◌, length, take, inl, inr, refl, sym, ap, subst, ◌∙◌, arith, take_all}
+use Rattle.std.proofs.lemmas.List.{length-take-le, take-append-le}
 use Rattle.std.proofs.Math.Seq.{take-append-add}
 use Rattle.httparse.proofs.GrammarLemmas.{ReadsResponse-append}
 use Rattle.ph_io.specs.Told.{SourceState}
 use Rattle.ph_io.specs.Reads.{Moves, Ends, ReadFails, EndsAfter}
-use Rattle.ph_io.proofs.DeviceLemmas.{moves_then_ends, moves_then_fails}
+use Rattle.ph_io.proofs.DeviceLemmas.{moves_then_ends, moves_then_fails, moves_twice}
 use Rattle.ph_delivery.specs.declared.outcome.Outcome.{Outcome}
 use Rattle.ph_delivery.specs.declared.outcome.Outcome.TheVariants as outcome
 use Rattle.ph_courier.specs.Answers.{HasStatus, HasNoStatus, Says, Hears, answer_limit, outcome_of}
 use Rattle.ph_courier.specs.Listens.{IsHeard, IsCutOff, Listens}
+
+-- n more bytes of the answer stand in the room behind those that stood there
+pub read_on :
+    {old between new : SourceState} (room piece rest : List ℕ) (at n : ℕ) → at ≤ length room →
+    n ≤ length piece → Moves old between (take at room) → Moves between new (take n piece) →
+    Moves old new (take (at + n) (take at room ++ piece ++ rest))
+read_on {old} {between} {new} room piece rest at n within fits first second =
+    let long : length (take at room) ≡ at = length-take-le at room within in
+    let all = take at room ++ piece ++ rest in
+    let front = ap (λ k. take (k + n) all) (sym long) ∙ take-append-add (take at room) (piece ++ rest) n in
+    let back = ap (λ ys. take at room ++ ys) (take-append-le n piece rest fits) in
+    subst (Moves old new) (sym (front ∙ back)) (moves_twice first second)
 
 -- a head stays the head, whatever follows
 pub status_stays :

@@ -3,11 +3,40 @@ use Rattle.std.proofs.Common.{◌≡◌, ℕ, ◌+◌, ◌<◌, ◌⊎◌, inl, 
 use Rattle.std.proofs.lemmas.Bool.Decides.{nat_tests}
 use Rattle.ph_base.specs.Counts.{Rose}
 use Rattle.ph_io.specs.Told.{SourceState, SinkState}
+use Rattle.ph_io.specs.Writes.{Takes, TakesFront}
 use Rattle.ph_dial.specs.Dialers.{DialerState, Dialed, HangsUp, is_broken, Tells}
 use Rattle.ph_delivery.specs.declared.outcome.Outcome.{Outcome}
 use Rattle.ph_delivery.specs.declared.outcome.Outcome.TheVariants as outcome
 use Rattle.ph_courier.specs.Answers.{Hears, Says, is_success, outcome_of}
 use Rattle.ph_courier.specs.Calls.{Delivers, Ends}
+use Rattle.ph_courier.specs.Listens.{Listens}
+
+-- the request couldn't be written whole
+pub stalled :
+    {source0 source1 : SourceState} {sink0 sink1 : SinkState} {request : List ℕ} →
+    TakesFront sink0 sink1 request → source1 ≡ source0 →
+    Ends source0 source1 sink0 sink1 request outcome.Unreached
+stalled front unread = inl (record { front = front; unread = unread; outcome = refl })
+
+-- it was written whole, and then the answer was listened to
+pub exchanged :
+    {source0 source1 source2 : SourceState} {sink0 sink1 sink2 : SinkState} {request : List ℕ}
+    {said : Outcome} →
+    Takes sink0 sink1 request → source1 ≡ source0 → Listens source1 source2 said →
+    sink2 ≡ sink1 → Ends source0 source2 sink0 sink2 request said
+exchanged {source0} {source1} {source2} {sink0} {sink1} {sink2} {request} {said} whole unread listened kept =
+    at (subst (λ sink. Takes sink0 sink request) (sym kept) whole)
+    (subst (λ source. Listens source source2 said) unread listened) where
+      at : Takes sink0 sink2 request → Listens source0 source2 said →
+          Ends source0 source2 sink0 sink2 request said
+      at written (inl heard) =
+          inr (inr (record { whole = written; bytes = heard.bytes; heard = heard.heard }))
+      at written (inr cut) = inr (inl (record {
+        whole = written;
+        bytes = cut.bytes;
+        broke = cut.broke;
+        outcome = cut.outcome;
+      }))
 
 -- what a status says is never that nobody was reached, nor that it was dropped
 said_by_status : (status : ℕ) (said : Outcome) → said ≡ outcome_of status → (¬ (said ≡ outcome.Unreached)) × (¬ (said ≡ outcome.Dropped))
