@@ -7,7 +7,8 @@ pub carried :
     target ++ plain ++ (name ++ value ++ end) ++ lengths ++ body
     ≡ (target ++ plain) ++ name ++ value ++ end ++ lengths ++ body
 carried target plain name value end lengths body =
-    ap (λ line. target ++ plain ++ line)
-    (append_assoc name (value ++ end) (lengths ++ body)
-    ∙ ap (λ rest. name ++ rest) (append_assoc value end (lengths ++ body)))
-    ∙ sym (append_assoc target plain (name ++ value ++ end ++ lengths ++ body))
+    let rest = lengths ++ body in
+    let inner : (name ++ value ++ end) ++ rest ≡ name ++ value ++ end ++ rest =
+    append_assoc name (value ++ end) rest ∙ ap (λ (more : List ℕ). name ++ more) (append_assoc value end rest) in
+    ap (λ (more : List ℕ). target ++ plain ++ more) inner
+    ∙ sym (append_assoc target plain (name ++ value ++ end ++ rest))

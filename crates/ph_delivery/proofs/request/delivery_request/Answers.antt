@@ -1,4 +1,4 @@
-use Rattle.std.proofs.Common.{◌≡◌, ◌++◌, length, codes, ◌∙◌}
+use Rattle.std.proofs.Common.{◌++◌, length, codes, arith}
 use Rattle.ph_sign.specs.Signatures.{signature_header}
 use Rattle.ph_delivery.specs.Requests.{crlf, delivery_request, target_lines, plain_lines, length_lines}
 use Rattle.ph_delivery.proofs.RequestLemmas.{carried}
@@ -22,5 +22,5 @@ returns-clause-signed c =
           rw (c.new.ensures, c.in_ok-extend_from_slice-2.ensures.items, c.in_ok-push_length.ensures, c.in_ok-push_signature.ensures, c.in_ok-extend_from_slice.ensures.items, c.in_ok-push_target.ensures, c.new-out.ensures.items)
           (carried target plain_lines (codes "Stripe-Signature: ") header crlf (length_lines (length c.args.body.now)) c.args.body.now);
       good = λ secret now tolerance inside soon.
-          c.header_is_good.ensures c.args.secrets.now c.args.at c.args.body.now secret now tolerance c.told-at inside soon;
+          c.header_is_good.ensures c.args.secrets.now c.args.at c.args.body.now secret now tolerance (omega (arith, c.ranges.at.fits)) inside soon;
     }
