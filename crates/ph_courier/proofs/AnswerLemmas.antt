@@ -15,10 +15,10 @@ use Rattle.ph_courier.specs.Listens.{IsHeard, IsCutOff, Listens}
 pub read_on :
     {old between new : SourceState} (room piece rest : List ℕ) (at n : ℕ) → at ≤ length room →
     n ≤ length piece → Moves old between (take at room) → Moves between new (take n piece) →
-    Moves old new (take (at + n) (take at room ++ piece ++ rest))
+    Moves old new (take (at + n) (take at room ++ (piece ++ rest)))
 read_on {old} {between} {new} room piece rest at n within fits first second =
     let long : length (take at room) ≡ at = length-take-le at room within in
-    let all = take at room ++ piece ++ rest in
+    let all = take at room ++ (piece ++ rest) in
     let front = ap (λ k. take (k + n) all) (sym long) ∙ take-append-add (take at room) (piece ++ rest) n in
     let back = ap (λ ys. take at room ++ ys) (take-append-le n piece rest fits) in
     subst (Moves old new) (sym (front ∙ back)) (moves_twice first second)

@@ -5,10 +5,9 @@ use Rattle.std.proofs.Common.{◌≡◌, ℕ, List, ◌++◌, sym, ap, ◌∙◌
 pub carried :
     (target plain name value end lengths body : List ℕ) →
     target ++ plain ++ (name ++ value ++ end) ++ lengths ++ body
-    ≡ (target ++ plain) ++ name ++ value ++ end ++ lengths ++ body
+    ≡ target ++ plain ++ name ++ value ++ end ++ lengths ++ body
 carried target plain name value end lengths body =
-    let rest = lengths ++ body in
-    let inner : (name ++ value ++ end) ++ rest ≡ name ++ value ++ end ++ rest =
-    append_assoc name (value ++ end) rest ∙ ap (λ (more : List ℕ). name ++ more) (append_assoc value end rest) in
-    ap (λ (more : List ℕ). target ++ plain ++ more) inner
-    ∙ sym (append_assoc target plain (name ++ value ++ end ++ rest))
+    let before = target ++ plain in
+    ap (λ (front : List ℕ). front ++ lengths ++ body)
+        (sym (append_assoc before (name ++ value) end)
+        ∙ ap (λ (front : List ℕ). front ++ end) (sym (append_assoc before name value)))
