@@ -54,11 +54,9 @@ heard_head {old} {new} {bytes} {status} moved short has = inl (record {
     moved,
     λ more. inl (
       status,
-      (
-        subst (λ first. HasStatus first status) (sym (first_bytes bytes more short))
-            (status_stays (take (answer_limit - length bytes) more) has),
-        refl,
-      ),
+      subst (λ first. HasStatus first status) (sym (first_bytes bytes more short))
+          (status_stays (take (answer_limit - length bytes) more) has),
+      refl,
     ),
   );
 })

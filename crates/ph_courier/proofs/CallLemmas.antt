@@ -49,7 +49,7 @@ said_by_status status said same = at (is_success status) same where
 says_neither :
     (bytes : List ℕ) (said : Outcome) → Says bytes said →
     (¬ (said ≡ outcome.Unreached)) × (¬ (said ≡ outcome.Dropped))
-says_neither bytes said (inl (status, (has, same))) = said_by_status status said same
+says_neither bytes said (inl (status, has, same)) = said_by_status status said same
 says_neither bytes said (inr (none, same)) = (
   λ h. let never : outcome.Refused 0 ≡ outcome.Unreached = sym same ∙ h in cc,
   λ h. let never : outcome.Refused 0 ≡ outcome.Dropped = sym same ∙ h in cc,

@@ -32,13 +32,13 @@ outcome_of status = if is_success status then outcome.Accepted else outcome.Refu
 
 -- what the bytes say: what the status of their head says, and `Refused` with 0 where they have none
 abbrev pub Says : List ℕ → Outcome → Type 0
-Says bytes outcome =
-    ((status : ℕ) × HasStatus bytes status × (outcome ≡ outcome_of status))
-    ⊎ (HasNoStatus bytes × (outcome ≡ outcome.Refused 0))
+Says bytes said =
+    ((status : ℕ) × HasStatus bytes status × (said ≡ outcome_of status))
+    ⊎ (HasNoStatus bytes × (said ≡ outcome.Refused 0))
 
 -- an answer was heard: these bytes of it were read, up to its end, and the first 16,384 of them say
 -- this; or fewer of it were, and whatever more of it comes, its first 16,384 bytes say this
 abbrev pub Hears : SourceState → SourceState → List ℕ → Outcome → Type 0
-Hears old new bytes outcome =
-    (EndsAfter old new bytes × Says (take answer_limit bytes) outcome)
-    ⊎ (Moves old new bytes × ((more : List ℕ) → Says (take answer_limit (bytes ++ more)) outcome))
+Hears old new bytes said =
+    (EndsAfter old new bytes × Says (take answer_limit bytes) said)
+    ⊎ (Moves old new bytes × ((more : List ℕ) → Says (take answer_limit (bytes ++ more)) said))
