@@ -1,4 +1,4 @@
-use Rattle.std.proofs.Common.{◌≡◌, ◌-◌, ◌≤◌, ◌<◌, length, take, take_all, rules, arith}
+use Rattle.std.proofs.Common.{◌≡◌, ◌-◌, ◌≤◌, ◌<◌, length, take, take_all, rules, ◌∙◌, arith}
 use Rattle.std.proofs.lemmas.List.{length-take-le}
 use borrow.Rule.Slice.PartMut.{post_of, same_len_mid}
 use Rattle.ph_courier.proofs.AnswerLemmas.{cut_off, heard_all, heard_end, heard_head, read_on}
@@ -14,7 +14,7 @@ pub returns-in-Ok-eq0-clause-heard : goal.returns-in-Ok-eq0-clause-heard
 returns-in-Ok-eq0-clause-heard g c =
     let reads = c.reads.invariant in
     let long = length-take-le c.reads.at c.reads.room (omega arith) in
-    heard_end reads.moved (c.in-Ok-eq0.ensures.ends c.in-Ok-eq0.field-0-test) (omega arith) c.in-None.ensures.none
+    heard_end reads.moved (c.in-Ok-eq0.ensures.ends c.in-Ok-eq0.field-0-test) (omega arith) c.in_default.ensures.none
 
 pub returns-in-Err-clause-heard : goal.returns-in-Err-clause-heard
 returns-in-Err-clause-heard g c = cut_off c.reads.invariant.moved c.in-Err.ensures.fails
@@ -39,9 +39,11 @@ reads-preserved g c =
     let some : 0 < c.in-Ok.n = omega arith in
     record {
       within = omega (arith, c.in-Ok.ensures.within);
-      room = search rules;
+      room =
+          same_len_mid c.reads.at (16384 - c.reads.at) c.reads.room c.read.new.room c.read.auto.room
+          ∙ reads.room;
       moved =
           read_on c.reads.room c.read.new.room (post_of c.reads.at (16384 - c.reads.at) c.reads.room)
-              c.reads.at c.in-Ok.n (omega arith) c.in-Ok.ensures.within reads.moved (c.in-Ok.ensures.moves some);
+              c.reads.at c.in-Ok.n (omega arith) (omega (arith, c.in-Ok.ensures.within)) reads.moved (c.in-Ok.ensures.moves some);
       beside = search rules;
     }
