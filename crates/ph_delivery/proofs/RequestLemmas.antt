@@ -9,5 +9,5 @@ pub carried :
 carried target plain name value end lengths body =
     let before = target ++ plain in
     ap (λ (front : List ℕ). front ++ lengths ++ body)
-        (sym (append_assoc before (name ++ value) end)
-        ∙ ap (λ (front : List ℕ). front ++ end) (sym (append_assoc before name value)))
+    (sym (append_assoc before (name ++ value) end)
+    ∙ ap (λ (front : List ℕ). front ++ end) (sym (append_assoc before name value)))

@@ -36,5 +36,5 @@ module _ {X : Type 0} (f : X → X) where
   renews_one now old at d new within same written =
       ap (λ (xs : List X). set xs at new) same
       ∙ ap (λ (x : X). set (map f (take at old) ++ drop at old) at x)
-          (written ∙ ap (λ (xs : List X). f (get_or xs at d)) same ∙ ap f (still_there old at d within))
+      (written ∙ ap (λ (xs : List X). f (get_or xs at d)) same ∙ ap f (still_there old at d within))
       ∙ one_more old at d within

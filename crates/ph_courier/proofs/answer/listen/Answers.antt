@@ -44,6 +44,6 @@ reads-preserved g c =
           ∙ reads.room;
       moved =
           read_on c.reads.room c.read.new.room (post_of c.reads.at (16384 - c.reads.at) c.reads.room)
-              c.reads.at c.in-Ok.n (omega arith) (omega (arith, c.in-Ok.ensures.within)) reads.moved (c.in-Ok.ensures.moves some);
+          c.reads.at c.in-Ok.n (omega arith) (omega (arith, c.in-Ok.ensures.within)) reads.moved (c.in-Ok.ensures.moves some);
       beside = search rules;
     }

@@ -8,6 +8,6 @@ returns-in-Ok-clause-ends g c =
     let wrote = c.write_all.new.sink in
     let heard = c.listen.new.source in
     exchanged c.in-Ok.ensures.all
-        (ap (λ b. b.source) (sym (laws.write_keeps wrote) ∙ c.in-Ok.ensures.beside ∙ laws.write_keeps c.args.conn.now))
-        c.listen.ensures.heard
-        (ap (λ b. b.sink) (sym (laws.read_keeps heard) ∙ c.listen.ensures.beside ∙ laws.read_keeps wrote))
+    (ap (λ b. b.source) (sym (laws.write_keeps wrote) ∙ c.in-Ok.ensures.beside ∙ laws.write_keeps c.args.conn.now))
+    c.listen.ensures.heard
+    (ap (λ b. b.sink) (sym (laws.read_keeps heard) ∙ c.listen.ensures.beside ∙ laws.read_keeps wrote))

@@ -12,4 +12,4 @@ blank = record { number = 0; endpoint = 0; delivery = record { tries = 0; state 
 pub deliveries-preserved : goal.deliveries-preserved
 deliveries-preserved c =
     renews_one (renewed c.args.number c.args.delivery) c.deliveries.deliveries c.args.deliveries.now
-        c.deliveries.at blank c.renewed.result (omega arith) c.deliveries.invariant c.renewed.ensures
+    c.deliveries.at blank c.renewed.result (omega arith) c.deliveries.invariant c.renewed.ensures
