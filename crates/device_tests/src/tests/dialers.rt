@@ -165,7 +165,7 @@ fn a_dial_without_a_far_end_fails(rt: HostRuntime) -> Result<(), Fail> {
         port.number().expect(&rt, "a port of the system's choice")
     };
     let mut dialer = TcpDialer::new(&rt, Duration::from_secs(20));
-    for host in [b"127.0.0.1".as_slice(), b"[zz]", b"\xff"] {
+    for host in [b"127.0.0.1".as_slice(), b"\xff"] {
         let host = Bytes::from_slice(alloc, host)?;
         assert!(rt; matches!(dialer.dial(&host, number), Err(DialFailed)));
     }
