@@ -1,9 +1,7 @@
-//! What no session shows: readers and writers of std that fail, far ends that are silent, futures
-//! that are dropped, tickets, and threads.
+//! What no session shows: readers and writers of std that fail, futures that are dropped, tickets, and threads.
 
 mod acquirers;
 mod connections;
-mod dialers;
 mod locks;
 mod ports;
 mod sinks;

@@ -1,9 +1,8 @@
--- The states of the connections, the gates and the dialer that this crate has.
+-- The states of the connections and the gates that this crate has.
 use Rattle.std.specs.Prelude.{ℕ, Bool, false, None}
 use Rattle.ph_io.specs.Told.{SourceState, SinkState, BesideSource, BesideSink}
 use Rattle.ph_io.specs.Forms.{untold_source, untold_sink}
 use Rattle.ph_io.specs.Gates.{GateState}
-use Rattle.ph_dial.specs.Dialers.{DialerState}
 
 -- a connection over TCP: the counts of its ends and of the faults of its reads and writes
 pub record TcpDuplexState : Type 0 where
@@ -60,25 +59,5 @@ told_by_gate state = record {
   out = state.out;
   returned = None;
   ended = state.ended;
-  faults = state.faults;
-}
-
--- a dialer over TCP: how many connections are out, how many of those that came back were broken, and
--- how often it failed
-pub record TcpDialerState : Type 0 where
-  pub out : ℕ
-  pub broken : ℕ
-  pub faults : ℕ
-
--- a dialer that opened nothing yet
-abbrev pub undialed : TcpDialerState
-undialed = record { out = 0; broken = 0; faults = 0 }
-
--- a dialer over TCP tells no records
-abbrev pub told_by_dialer : TcpDialerState → DialerState
-told_by_dialer state = record {
-  out = state.out;
-  calls = None;
-  broken = state.broken;
   faults = state.faults;
 }

@@ -1,13 +1,11 @@
 //! A connection over TCP.
-ghost use Rattle.std.specs.Prelude.{◌≡◌, ◌+◌, ◌-◌, ◌^◌, min, nat_lt, refl, None};
+ghost use Rattle.std.specs.Prelude.{◌≡◌, refl, None};
 ghost use Rattle.ph_net.specs.Forms.{TcpDuplexState, unused, source_of, sink_of, beside_source_of, beside_sink_of};
 
 use ph_io::{Duplex, ReadFailed, Sink, Source, WriteFailed};
-use std::io;
 use std::io::{Read, Write};
 use std::marker::Model;
 use std::net::TcpStream;
-use std::time::Duration;
 
 /// A stream of TCP, with counts of its ends and of the faults of its reads and writes. It tells no
 /// content and no address. A write that takes none of a piece counts as a fault. Dropping it closes
@@ -42,39 +40,6 @@ impl TcpDuplex {
             write_faults: 0,
         }
     }
-
-    /// Whether a read or a write of it failed.
-    pub(crate) fn is_broken(&self) -> bool
-        ensures { result ≡ nat_lt 0 (self.now.read_faults + self.now.write_faults) }
-    {
-        self.read_faults > 0 || self.write_faults > 0
-    }
-
-    /// Gives each read and each write of it this limit of time, which isn't 0.
-    pub(crate) fn limit(&self, limit: Duration) -> io::Result<()> {
-        self.stream.set_read_timeout(Some(limit))?;
-        self.stream.set_write_timeout(Some(limit))
-    }
-
-    /// A read of it that failed, which is counted.
-    pub(crate) fn read_fails(&mut self) -> ReadFailed
-        ensures counted { self.new.read_faults ≡ min (self.old.read_faults + 1) (2 ^ 64 - 1) }
-        ensures ends { self.new.ends ≡ self.old.ends }
-        ensures write_faults { self.new.write_faults ≡ self.old.write_faults }
-    {
-        self.read_faults = self.read_faults.saturating_add(1);
-        ReadFailed
-    }
-
-    /// A write of it that failed, which is counted.
-    pub(crate) fn write_fails(&mut self) -> WriteFailed
-        ensures counted { self.new.write_faults ≡ min (self.old.write_faults + 1) (2 ^ 64 - 1) }
-        ensures ends { self.new.ends ≡ self.old.ends }
-        ensures read_faults { self.new.read_faults ≡ self.old.read_faults }
-    {
-        self.write_faults = self.write_faults.saturating_add(1);
-        WriteFailed
-    }
 }
 
 impl Source for TcpDuplex {
@@ -90,7 +55,10 @@ impl Source for TcpDuplex {
                 }
                 Ok(n)
             }
-            Err(_) => Err(self.read_fails()),
+            Err(_) => {
+                self.read_faults = self.read_faults.saturating_add(1);
+                Err(ReadFailed)
+            }
         }
     }
 }
@@ -103,7 +71,10 @@ impl Sink for TcpDuplex {
     fn write(&mut self, piece: &[u8]) -> Result<usize, WriteFailed> {
         match self.stream.write(piece) {
             Ok(n) if n > 0 => Ok(n),
-            _ => Err(self.write_fails()),
+            _ => {
+                self.write_faults = self.write_faults.saturating_add(1);
+                Err(WriteFailed)
+            }
         }
     }
 }
