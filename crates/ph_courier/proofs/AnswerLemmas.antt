@@ -1,15 +1,14 @@
 -- What the first bytes of an answer say, and what follows them.
-use Rattle.std.proofs.Common.{◌≡◌, ℕ, ◌+◌, ◌-◌, ◌≤◌, List, [], ◌++◌, length, take, inl, inr, refl, sym, ap, subst, ◌∙◌, arith, take_all}
+use Rattle.std.proofs.Common.{◌≡◌, ℕ, ◌+◌, ◌-◌, ◌≤◌, List, ◌++◌, length, take, inl, inr, refl, sym, ap, subst, ◌∙◌, arith, take_all}
 use Rattle.std.proofs.lemmas.List.{length-take-le, take-append-le}
 use Rattle.std.proofs.Math.Seq.{take-append-add}
 use Rattle.httparse.proofs.GrammarLemmas.{ReadsResponse-append}
 use Rattle.ph_io.specs.Told.{SourceState}
-use Rattle.ph_io.specs.Reads.{Moves, Ends, ReadFails, EndsAfter}
+use Rattle.ph_io.specs.Reads.{Moves, Ends, ReadFails}
 use Rattle.ph_io.proofs.DeviceLemmas.{moves_then_ends, moves_then_fails, moves_twice}
-use Rattle.ph_delivery.specs.declared.outcome.Outcome.{Outcome}
 use Rattle.ph_delivery.specs.declared.outcome.Outcome.TheVariants as outcome
-use Rattle.ph_courier.specs.Answers.{HasStatus, HasNoStatus, Says, Hears, answer_limit, outcome_of}
-use Rattle.ph_courier.specs.Listens.{IsHeard, IsCutOff, Listens}
+use Rattle.ph_courier.specs.Answers.{HasStatus, HasNoStatus, answer_limit, outcome_of}
+use Rattle.ph_courier.specs.Listens.{Listens}
 
 -- n more bytes of the answer stand in the room behind those that stood there
 pub read_on :

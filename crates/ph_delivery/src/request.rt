@@ -1,6 +1,6 @@
 //! The request of a delivery.
 ghost use Rattle.std.specs.Prelude.{◌≡◌, ◌++◌, length, IfOk, OnOk};
-ghost use Rattle.ph_delivery.specs.Requests.{delivery_request, target_lines, plain_lines, signature_line, length_lines, IsSigned};
+ghost use Rattle.ph_delivery.specs.Requests.{delivery_request, target_lines, signature_line, length_lines, IsSigned};
 
 use ph_base::{Bytes, NoMemory};
 use ph_sign::{header, header_is_good};

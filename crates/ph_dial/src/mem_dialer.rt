@@ -38,7 +38,7 @@ pub struct MemDialer {
 }
 
 impl Model for MemDialer {
-    ghost use Rattle.std.specs.Prelude.{◌+◌, ◌≤◌, length, All, vec_len, vec_capacity};
+    ghost use Rattle.std.specs.Prelude.{◌+◌, ◌≤◌, length, All, vec_capacity};
     ghost use Rattle.ph_dial.specs.MemDialers.{MemDialerState, mem_dialer_of, IsUnused};
 
     ghost Value = { MemDialerState };

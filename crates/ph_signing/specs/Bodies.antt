@@ -1,5 +1,5 @@
 -- What reading a body to its end comes to.
-use Rattle.std.specs.Prelude.{◌≡◌, ℕ, ◌<◌, ◌≤◌, List, length, Result, Ok, Err}
+use Rattle.std.specs.Prelude.{ℕ, ◌<◌, ◌≤◌, List, length, Result, Ok, Err}
 use Rattle.ph_io.specs.Told.{SourceState}
 use Rattle.ph_io.specs.Reads.{Moves, EndsAfter, FailsAfter}
 use Rattle.ph_signing.specs.declared.body.BodyFault.{BodyFault}

@@ -1,29 +1,28 @@
 //! Deliveries: their request, what becomes of it at far ends in memory, and when it is sent again.
-ghost use Rattle.std.specs.Prelude.{◌<◌, ◌^◌};
+ghost use Rattle.std.specs.Prelude.{◌<◌, IfOk};
+ghost use Rattle.ph_dial.specs.MemDialers.{IsUnused};
 
-use ph_base::Bytes;
+use ph_base::{Bytes, NoMemory};
 use ph_courier::deliver;
 use ph_delivery::{Delivery, DeliveryState, Job, Outcome, delivery_request};
 use ph_dial::{FarEnd, MemDialer};
 use ph_hooks::{Hooks, Waiting};
 use ph_io::{MemSink, MemSource};
 use std::alloc::Global;
+use std::process::Abort;
 use std::test::Fail;
 
-/// The body of an event. Its signatures below, at 1700000000 under `whsec_test_0000000000000002` and
-/// `whsec_test_0000000000000003`, were made with Python's `hmac`.
-const BODY: &[u8] = b"{\"id\":\"evt_0000000000000004\"}";
-
-/// A dialer of one far end that gives this answer in pieces of at most so many bytes, and of which the
-/// reads and writes of these numbers fail. A write takes at most 64 bytes.
+/// A far end that gives this answer in pieces of at most so many bytes, and of which the reads and
+/// writes of these numbers fail. A write takes at most 64 bytes.
 fn far_end(
     alloc: Global,
     answer: &[u8],
     most: usize,
     reads: &[u64],
     writes: &[u64],
-) -> Result<MemDialer, Fail>
+) -> Result<FarEnd, NoMemory>
     requires { 0 < most }
+    ensures { IfOk result IsUnused }
 {
     let source = MemSource::new(
         Vec::from_slice(alloc, answer)?,
@@ -31,13 +30,20 @@ fn far_end(
         Vec::from_slice(alloc, reads)?,
     );
     let sink = MemSink::new(alloc, 64, Vec::from_slice(alloc, writes)?);
+    Ok(FarEnd { source, sink })
+}
+
+/// A dialer with one far end.
+fn dialer(alloc: Global, far: FarEnd) -> Result<MemDialer, NoMemory>
+    requires { IsUnused far }
+{
     let mut dialer = MemDialer::new(alloc, Vec::new(alloc));
-    dialer.add(FarEnd { source, sink })?;
+    dialer.add(far)?;
     Ok(dialer)
 }
 
 /// What becomes of a short request at this dialer.
-fn outcome(alloc: Global, dialer: &mut MemDialer) -> Result<Outcome, Fail> {
+fn outcome(alloc: Global, dialer: &mut MemDialer) -> Result<Outcome, NoMemory> {
     let host = Bytes::from_slice(alloc, b"127.0.0.1")?;
     let request = Bytes::from_slice(alloc, b"POST /hook HTTP/1.1\r\n\r\n")?;
     let job = Job::new(host, 9000, request, 3);
@@ -46,14 +52,30 @@ fn outcome(alloc: Global, dialer: &mut MemDialer) -> Result<Outcome, Fail> {
     Ok(outcome)
 }
 
-/// What becomes of a request that is answered so, in pieces of at most so many bytes.
-fn answered(alloc: Global, answer: &[u8], most: usize) -> Result<Outcome, Fail>
+/// What becomes of a request that is answered so, in pieces of at most so many bytes, where the reads
+/// and writes of these numbers fail.
+fn answered(
+    alloc: Global,
+    answer: &[u8],
+    most: usize,
+    reads: &[u64],
+    writes: &[u64],
+) -> Result<Outcome, NoMemory>
     requires { 0 < most }
 {
-    let mut dialer = far_end(alloc, answer, most, &[], &[])?;
+    let far = far_end(alloc, answer, most, reads, writes)?;
+    let mut dialer = dialer(alloc, far)?;
     outcome(alloc, &mut dialer)
 }
 
+/// This becomes of a request that is answered so, in pieces of seven bytes.
+fn says(rt: &impl Abort, alloc: Global, answer: &[u8], expected: Outcome) {
+    let found = answered(alloc, answer, 7, &[], &[]).expect(rt, "no memory");
+    assert_eq!(rt; found, expected);
+}
+
+/// The signatures, at 1700000000 under `whsec_test_0000000000000002` and `whsec_test_0000000000000003`,
+/// were made with Python's `hmac`.
 #[test]
 fn the_request_has_its_lines_and_its_signature(rt: HostRuntime) -> Result<(), Fail> {
     let alloc = rt.alloc();
@@ -67,7 +89,7 @@ fn the_request_has_its_lines_and_its_signature(rt: HostRuntime) -> Result<(), Fa
         b"/hook?a=b",
         &secrets,
         1_700_000_000,
-        BODY,
+        b"{\"id\":\"evt_0000000000000004\"}",
     )?;
     let expected = b"POST /hook?a=b HTTP/1.1\r\n\
         Host: 127.0.0.1:9000\r\n\
@@ -83,150 +105,145 @@ fn the_request_has_its_lines_and_its_signature(rt: HostRuntime) -> Result<(), Fa
 }
 
 #[test]
-fn an_answer_says_what_became_of_it(rt: HostRuntime) -> Result<(), Fail> {
+fn an_answer_says_what_became_of_it(rt: HostRuntime) {
     let alloc = rt.alloc();
-    let rows = [
-        (
-            b"HTTP/1.1 200 OK\r\nContent-Length: 2\r\n\r\nok".as_slice(),
-            Outcome::Accepted,
-        ),
-        (b"HTTP/1.1 204\r\n\r\n", Outcome::Accepted),
-        (b"HTTP/1.0 299 Odd\r\n\r\n", Outcome::Accepted),
-        (b"HTTP/1.1 199 Odd\r\n\r\n", Outcome::Refused(199)),
-        (
-            b"HTTP/1.1 300 Multiple Choices\r\n\r\n",
-            Outcome::Refused(300),
-        ),
-        (
-            b"HTTP/1.1 500 Internal Server Error\r\n\r\n",
-            Outcome::Refused(500),
-        ),
-        (
-            b"HTTP/1.1 100 Continue\r\n\r\nHTTP/1.1 200 OK\r\n\r\n",
-            Outcome::Refused(100),
-        ),
-        (b"HTTP/1.1 200 OK\r\n", Outcome::Refused(0)),
-        (b"not a head", Outcome::Refused(0)),
-        (b"", Outcome::Refused(0)),
-    ];
-    for (answer, expected) in &rows {
-        assert_eq!(rt; answered(alloc, answer, 7)?, *expected);
-    }
-    Ok(())
+    let whole = b"HTTP/1.1 200 OK\r\nContent-Length: 2\r\n\r\nok".as_slice();
+    says(&rt, alloc, whole, Outcome::Accepted);
+    says(&rt, alloc, b"HTTP/1.1 204\r\n\r\n", Outcome::Accepted);
+    says(&rt, alloc, b"HTTP/1.0 299 Odd\r\n\r\n", Outcome::Accepted);
+    let odd = b"HTTP/1.1 199 Odd\r\n\r\n".as_slice();
+    says(&rt, alloc, odd, Outcome::Refused(199));
+    let moved = b"HTTP/1.1 300 Multiple Choices\r\n\r\n".as_slice();
+    says(&rt, alloc, moved, Outcome::Refused(300));
+    let broken = b"HTTP/1.1 500 Internal Server Error\r\n\r\n".as_slice();
+    says(&rt, alloc, broken, Outcome::Refused(500));
+    let interim = b"HTTP/1.1 100 Continue\r\n\r\nHTTP/1.1 200 OK\r\n\r\n".as_slice();
+    says(&rt, alloc, interim, Outcome::Refused(100));
+    says(&rt, alloc, b"HTTP/1.1 200 OK\r\n", Outcome::Refused(0));
+    says(&rt, alloc, b"not a head", Outcome::Refused(0));
+    says(&rt, alloc, b"", Outcome::Refused(0));
 }
 
-/// An answer of 200 whose head has so many bytes.
-fn long_answer(alloc: Global, length: usize) -> Result<Vec<u8>, Fail> {
+/// What becomes of a request that is answered by a head of 200 with so many bytes, of which the value
+/// of a field fills all but 24.
+fn long_head(alloc: Global, value: usize) -> Result<Outcome, NoMemory> {
+    let filler = Vec::from_elem(alloc, b'a', value)?;
     let mut answer = Vec::from_slice(alloc, b"HTTP/1.1 200 OK\r\nA: ")?;
-    while answer.len() < length.saturating_sub(4) {
-        answer.push(b'a')?;
-    }
+    answer.extend_from_slice(&filler)?;
     answer.extend_from_slice(b"\r\n\r\n")?;
-    Ok(answer)
+    answered(alloc, &answer, 5000, &[], &[])
 }
 
+/// A head of 16,384 bytes is one, and a head of 16,385 bytes is none.
 #[test]
 fn a_head_of_over_16384_bytes_is_none(rt: HostRuntime) -> Result<(), Fail> {
     let alloc = rt.alloc();
-    let fits = long_answer(alloc, 16_384)?;
-    let over = long_answer(alloc, 16_385)?;
-    assert_eq!(rt; fits.len(), 16_384);
-    assert_eq!(rt; answered(alloc, &fits, 5000)?, Outcome::Accepted);
-    assert_eq!(rt; answered(alloc, &over, 5000)?, Outcome::Refused(0));
+    assert_eq!(rt; long_head(alloc, 16_384 - 24)?, Outcome::Accepted);
+    assert_eq!(rt; long_head(alloc, 16_385 - 24)?, Outcome::Refused(0));
     Ok(())
 }
 
+/// This becomes of a request that is answered by a head of 200 in three pieces, where the reads and
+/// writes of these numbers fail.
+fn fails(rt: &impl Abort, alloc: Global, reads: &[u64], writes: &[u64], expected: Outcome) {
+    let answer = b"HTTP/1.1 200 OK\r\n\r\n";
+    let found = answered(alloc, answer, 7, reads, writes).expect(rt, "no memory");
+    assert_eq!(rt; found, expected);
+}
+
 #[test]
-fn a_connection_that_fails_leaves_it_unreached(rt: HostRuntime) -> Result<(), Fail> {
+fn a_connection_that_fails_leaves_it_unreached(rt: HostRuntime) {
     let alloc = rt.alloc();
-    let answer = b"HTTP/1.1 200 OK\r\n\r\n".as_slice();
-    let mut unread = far_end(alloc, answer, 7, &[1], &[])?;
-    assert_eq!(rt; outcome(alloc, &mut unread)?, Outcome::Unreached);
-    let mut unwritten = far_end(alloc, answer, 7, &[], &[0])?;
-    assert_eq!(rt; outcome(alloc, &mut unwritten)?, Outcome::Unreached);
-    // The far end was handed back, and no other is left.
-    assert_eq!(rt; unwritten.returned().len(), 1);
-    assert_eq!(rt; outcome(alloc, &mut unwritten)?, Outcome::Unreached);
+    fails(&rt, alloc, &[1], &[], Outcome::Unreached);
+    fails(&rt, alloc, &[], &[0], Outcome::Unreached);
     // A read that would fail behind the head isn't made.
-    let mut heard = far_end(alloc, answer, 7, &[3], &[])?;
-    assert_eq!(rt; outcome(alloc, &mut heard)?, Outcome::Accepted);
-    Ok(())
-}
-
-/// A delivery that is tried at a moment, with this outcome.
-fn tried(delivery: Delivery, outcome: Outcome, at: u64) -> Delivery
-    requires tries { delivery.tries < 4 }
-    requires at { at < 2 ^ 63 }
-{
-    delivery.taken().told(outcome, at)
+    fails(&rt, alloc, &[3], &[], Outcome::Accepted);
 }
 
 #[test]
-fn a_delivery_that_was_refused_is_sent_again(rt: HostRuntime) -> Result<(), Fail> {
-    let mut hooks = Hooks::new(rt.alloc());
-    let mut delivery = Delivery::begun(1_700_000_000);
-    hooks.add(Waiting {
-        number: 5,
-        endpoint: 2,
-        delivery,
-    })?;
-    assert_eq!(rt; hooks.due(1_699_999_999), None);
-    assert_eq!(rt; hooks.due(1_700_000_000), Some(5));
-    hooks.renew(5, delivery.taken());
-    assert_eq!(rt; hooks.due(1_700_000_000), None);
-    delivery = tried(delivery, Outcome::Refused(500), 1_700_000_000);
-    hooks.renew(5, delivery);
-    assert_eq!(rt; hooks.due(1_700_000_059), None);
-    assert_eq!(rt; hooks.due(1_700_000_060), Some(5));
-    if delivery.tries < 4 {
-        delivery = tried(delivery, Outcome::Accepted, 1_700_000_060);
-    }
-    hooks.renew(5, delivery);
-    assert_eq!(rt; hooks.due(253_402_300_799), None);
+fn a_dial_without_a_far_end_leaves_it_unreached(rt: HostRuntime) -> Result<(), Fail> {
+    let alloc = rt.alloc();
+    let mut none = MemDialer::new(alloc, Vec::new(alloc));
+    assert_eq!(rt; outcome(alloc, &mut none)?, Outcome::Unreached);
+    assert!(rt; none.returned().is_empty());
     Ok(())
 }
 
-#[test]
-fn a_delivery_is_given_up_after_the_fourth_attempt(rt: HostRuntime) -> Result<(), Fail> {
-    let mut delivery = Delivery::begun(0);
-    let moments = [
-        (0, Some(60)),
-        (60, Some(3_660)),
-        (3_660, Some(14_460)),
-        (14_460, None),
-    ];
-    for (at, next) in &moments {
-        assert_eq!(rt; delivery.due(), Some(*at));
-        if delivery.tries < 4 && *at < 20_000 {
-            delivery = tried(delivery, Outcome::Unreached, *at);
-        }
-        assert_eq!(rt; delivery.due(), *next);
+/// A delivery that is tried once more at a moment, with this outcome, where it may be.
+fn tried(delivery: Delivery, outcome: Outcome, at: u64) -> Delivery {
+    let taken = delivery.taken();
+    if taken.tries < 4 && at < 1_000_000 {
+        taken.told(outcome, at)
+    } else {
+        taken
     }
-    assert_eq!(rt; delivery.state, DeliveryState::GivenUp);
-    assert_eq!(rt; delivery.tries, 4);
-    Ok(())
+}
+
+/// A delivery that failed at this moment is due next at that one, or never.
+fn again(rt: &impl Abort, delivery: Delivery, at: u64, next: Option<u64>) -> Delivery {
+    let failed = tried(delivery, Outcome::Unreached, at);
+    assert_eq!(rt; failed.due(), next);
+    failed
+}
+
+#[test]
+fn a_delivery_is_given_up_after_the_fourth_attempt(rt: HostRuntime) {
+    let first = again(&rt, Delivery::begun(0), 0, Some(60));
+    let second = again(&rt, first, 60, Some(3_660));
+    let third = again(&rt, second, 3_660, Some(14_460));
+    let last = again(&rt, third, 14_460, None);
+    assert_eq!(rt; last.state, DeliveryState::GivenUp);
+    assert_eq!(rt; last.tries, 4);
+}
+
+/// One that was refused is due again, one that was dropped is due as before, and one that was accepted
+/// isn't due.
+#[test]
+fn an_outcome_decides_when_it_is_due(rt: HostRuntime) {
+    let begun = Delivery::begun(50);
+    assert_eq!(rt; begun.taken().due(), None);
+    assert_eq!(rt; tried(begun, Outcome::Refused(500), 70).due(), Some(130));
+    assert_eq!(rt; tried(begun, Outcome::Dropped, 70).due(), Some(50));
+    assert_eq!(rt; tried(begun, Outcome::Accepted, 70).due(), None);
+}
+
+/// Deliveries of these numbers and endpoints, with the moments from which on they are due.
+fn hooks(alloc: Global, rows: &[(u64, u64, u64)]) -> Result<Hooks, NoMemory> {
+    let mut hooks = Hooks::new(alloc);
+    for (number, endpoint, at) in rows {
+        hooks.add(Waiting {
+            number: *number,
+            endpoint: *endpoint,
+            delivery: Delivery::begun(*at),
+        })?;
+    }
+    Ok(hooks)
+}
+
+/// At this moment the delivery of this number is to be sent first, or none is.
+fn first(rt: &impl Abort, hooks: &Hooks, at: u64, number: Option<u64>) {
+    assert_eq!(rt; hooks.due(at), number);
 }
 
 #[test]
 fn the_first_due_is_by_moment_and_number(rt: HostRuntime) -> Result<(), Fail> {
-    let mut hooks = Hooks::new(rt.alloc());
-    for (number, endpoint, at) in [(7, 3, 20), (5, 2, 20), (9, 2, 10), (4, 2, 30)] {
-        hooks.add(Waiting {
-            number,
-            endpoint,
-            delivery: Delivery::begun(at),
-        })?;
-    }
-    assert_eq!(rt; hooks.due(9), None);
-    assert_eq!(rt; hooks.due(10), Some(9));
+    let rows = [(7, 3, 20), (5, 2, 20), (9, 2, 10), (4, 2, 30)];
+    let mut hooks = hooks(rt.alloc(), &rows)?;
+    first(&rt, &hooks, 9, None);
+    first(&rt, &hooks, 10, Some(9));
     hooks.renew(9, Delivery::begun(10).taken());
-    assert_eq!(rt; hooks.due(40), Some(5));
-    // What was dropped is due as before; the deliveries of a deleted endpoint aren't.
+    first(&rt, &hooks, 40, Some(5));
     hooks.renew(9, tried(Delivery::begun(10), Outcome::Dropped, 40));
-    assert_eq!(rt; hooks.due(40), Some(9));
+    first(&rt, &hooks, 40, Some(9));
+    Ok(())
+}
+
+#[test]
+fn the_deliveries_of_a_deleted_endpoint_are_not_due(rt: HostRuntime) -> Result<(), Fail> {
+    let mut hooks = hooks(rt.alloc(), &[(7, 3, 20), (5, 2, 20)])?;
     hooks.delete(2)?;
-    assert_eq!(rt; hooks.due(40), Some(7));
+    first(&rt, &hooks, 40, Some(7));
     hooks.delete(3)?;
-    assert_eq!(rt; hooks.due(40), None);
+    first(&rt, &hooks, 40, None);
     Ok(())
 }

@@ -1,4 +1,4 @@
-use Rattle.std.proofs.Common.{◌≡◌, ◌-◌, ◌≤◌, ◌<◌, length, take, take_all, rules, ◌∙◌, arith}
+use Rattle.std.proofs.Common.{◌≡◌, ◌-◌, ◌<◌, length, take, take_all, rules, ◌∙◌, arith}
 use Rattle.std.proofs.lemmas.List.{length-take-le}
 use borrow.Rule.Slice.PartMut.{post_of, same_len_mid}
 use Rattle.ph_courier.proofs.AnswerLemmas.{cut_off, heard_all, heard_end, heard_head, read_on}

@@ -1,4 +1,4 @@
-use Rattle.std.proofs.Common.{◌≡◌, ◌∷◌, ap, length, sym, arith}
+use Rattle.std.proofs.Common.{◌≡◌, ◌∷◌, ap, length, arith}
 use Rattle.std.proofs.lemmas.List.Elements.{All-rest}
 use Rattle.ph_dial.specs.MemDialers.{IsUnused}
 use Rattle.ph_dial.proofs.mem_dialer.MemDialerDialer.dial.Goals as goal
