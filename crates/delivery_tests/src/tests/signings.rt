@@ -62,32 +62,28 @@ fn a_body_is_signed(rt: HostRuntime) {
     );
 }
 
-/// The header of `Hi There` at 1700000000 is worth this for a body, at the moment and with the
-/// tolerance that end these words.
-fn judges(rt: &impl Abort, alloc: Global, line: &str, body: &[u8], text: &[u8]) {
-    let status = if text == b"good\n" { 0 } else { 1 };
-    does(rt, alloc, line, body, Some(status), text);
-}
-
+/// The header is the one of `Hi There` above.
 #[test]
 fn a_header_is_judged(rt: HostRuntime) {
     let alloc = rt.alloc();
     let last = "verify whsec_test_0000000000000002 t=1700000000,v1=b1bdac84a238035c2619506d3b1c4fcd3a04777e1c4a5bbf9708139ad237fa87 1700000300 300";
     let late = "verify whsec_test_0000000000000002 t=1700000000,v1=b1bdac84a238035c2619506d3b1c4fcd3a04777e1c4a5bbf9708139ad237fa87 1700000301 300";
-    judges(&rt, alloc, last, b"Hi There", b"good\n");
-    judges(&rt, alloc, late, b"Hi There", b"old\n");
-    judges(&rt, alloc, last, b"Hi there", b"mismatch\n");
-    judges(&rt, alloc, "verify s v1=00 1 1", b"", b"malformed\n");
+    does(&rt, alloc, last, b"Hi There", Some(0), b"good\n");
+    does(&rt, alloc, late, b"Hi There", Some(1), b"old\n");
+    does(&rt, alloc, last, b"Hi there", Some(1), b"mismatch\n");
+    let cut = "verify s v1=00 1 1";
+    does(&rt, alloc, cut, b"", Some(1), b"malformed\n");
 }
 
 #[test]
 fn a_body_of_over_65536_bytes_is_too_long(rt: HostRuntime) -> Result<(), Fail> {
     let alloc = rt.alloc();
+    let fits = Vec::from_elem(alloc, b'a', 65_536)?;
     let over = Vec::from_elem(alloc, b'a', 65_537)?;
     let mismatch = b"mismatch\n".as_slice();
     let too_long = b"too long\n".as_slice();
     let line = "verify s t=1,v1=00 1 1";
-    does(&rt, alloc, line, &over[..65_536], Some(1), mismatch);
+    does(&rt, alloc, line, &fits, Some(1), mismatch);
     does(&rt, alloc, line, &over, Some(1), too_long);
     does(&rt, alloc, "sign s 1", &over, Some(1), too_long);
     Ok(())
