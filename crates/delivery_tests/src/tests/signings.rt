@@ -36,14 +36,7 @@ fn done(
 }
 
 /// The words answer this status for a body, and write this text.
-fn does(
-    rt: &impl Abort,
-    alloc: Global,
-    line: &str,
-    body: &[u8],
-    status: Option<u8>,
-    text: &[u8],
-) {
+fn does(rt: &impl Abort, alloc: Global, line: &str, body: &[u8], status: Option<u8>, text: &[u8]) {
     let (found, output) = done(alloc, line, body, &[], &[]).expect(rt, "no memory");
     assert_eq!(rt; found, status);
     assert_eq!(rt; output.bytes(), text);
@@ -66,8 +59,10 @@ fn a_body_is_signed(rt: HostRuntime) {
 #[test]
 fn a_header_is_judged(rt: HostRuntime) {
     let alloc = rt.alloc();
-    let last = "verify whsec_test_0000000000000002 t=1700000000,v1=b1bdac84a238035c2619506d3b1c4fcd3a04777e1c4a5bbf9708139ad237fa87 1700000300 300";
-    let late = "verify whsec_test_0000000000000002 t=1700000000,v1=b1bdac84a238035c2619506d3b1c4fcd3a04777e1c4a5bbf9708139ad237fa87 1700000301 300";
+    let last =
+        "verify whsec_test_0000000000000002 t=1700000000,v1=b1bdac84a238035c2619506d3b1c4fcd3a04777e1c4a5bbf9708139ad237fa87 1700000300 300";
+    let late =
+        "verify whsec_test_0000000000000002 t=1700000000,v1=b1bdac84a238035c2619506d3b1c4fcd3a04777e1c4a5bbf9708139ad237fa87 1700000301 300";
     does(&rt, alloc, last, b"Hi There", Some(0), b"good\n");
     does(&rt, alloc, late, b"Hi There", Some(1), b"old\n");
     does(&rt, alloc, last, b"Hi there", Some(1), b"mismatch\n");
