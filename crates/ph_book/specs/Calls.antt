@@ -1,5 +1,5 @@
 -- What a call comes to, in the order of its refusals.
-use Rattle.std.specs.Prelude.{ℕ, Bool, true, false, not, nat_lt, if◌then◌else◌, List, length, Option, Some, None, Result, Ok, Err, codes, bytes_eq}
+use Rattle.std.specs.Prelude.{ℕ, Bool, true, false, nat_lt, if◌then◌else◌, List, length, Option, Some, None, codes}
 use Rattle.ph_base.specs.declared.ids.Kind.{Kind}
 use Rattle.ph_rows.specs.declared.rows.Row.{Row}
 use Rattle.ph_rows.specs.Batches.{BatchState, empty_batch, with_row}

@@ -115,7 +115,8 @@ fn asked(alloc: Global, raw: &Raw, tree: Form, key: &Bytes) -> Result<Asked, NoM
 // What is asked under a key by a request that was read from this form, or what is wrong with the key.
 fn under(alloc: Global, raw: &Raw, tree: Form, key: &Bytes) -> Result<Asked, Refusal>
     ensures asked { (call : Call) → IfOk result (λ asked. spec.keyed_request raw.now call tree (Some key.now) ≡ Accepted call (Some asked)) }
-    ensures refused { (call : Call) → IfErr result (λ refusal. (error : ApiError) → refusal ≡ Api error → spec.keyed_request raw.now call tree (Some key.now) ≡ Refused error) }
+    ensures refused { (call : Call) → IfErr result (λ refusal. (error : ApiError) → refusal ≡ Api error
+        → spec.keyed_request raw.now call tree (Some key.now) ≡ Refused error) }
 {
     if 255 < key.as_slice().len() {
         return Err(Refusal::Api(ApiError::key_too_long(alloc)?));
@@ -129,7 +130,8 @@ fn under(alloc: Global, raw: &Raw, tree: Form, key: &Bytes) -> Result<Asked, Ref
 // What is asked by a request that was read from this form, where it has a key, or what is wrong with the key.
 fn asks(alloc: Global, raw: &Raw, tree: Form) -> Result<Option<Asked>, Refusal>
     ensures asked { (call : Call) → IfOk result (λ asked. spec.keyed_request raw.now call tree (spec.key_of raw.now) ≡ Accepted call asked) }
-    ensures refused { (call : Call) → IfErr result (λ refusal. (error : ApiError) → refusal ≡ Api error → spec.keyed_request raw.now call tree (spec.key_of raw.now) ≡ Refused error) }
+    ensures refused { (call : Call) → IfErr result (λ refusal. (error : ApiError) → refusal ≡ Api error
+        → spec.keyed_request raw.now call tree (spec.key_of raw.now) ≡ Refused error) }
 {
     match key_of(raw) {
         None => Ok(None),
@@ -142,8 +144,8 @@ fn asks(alloc: Global, raw: &Raw, tree: Form) -> Result<Option<Asked>, Refusal>
 
 // What a request of this call comes to that asks this, or whose key is refused.
 fn keyed(call: Call, given: Result<Option<Asked>, Refusal>) -> Result<Judged, NoMemory>
-    ensures { (judged : Judged) → IfOk given (λ asked. judged ≡ Accepted call asked) → IfErr given (λ refusal. (error : ApiError) → refusal ≡ Api error → judged ≡ Refused error)
-        → IfOk result (λ made. made ≡ judged) }
+    ensures { (judged : Judged) → IfOk given (λ asked. judged ≡ Accepted call asked)
+        → IfErr given (λ refusal. (error : ApiError) → refusal ≡ Api error → judged ≡ Refused error) → IfOk result (λ made. made ≡ judged) }
 {
     match given {
         Ok(asked) => Ok(Judged::Accepted(call, asked)),
