@@ -80,6 +80,14 @@ no_place n m is = at (nat_lt n m) refl
 pub not_placed : (flights : List Flight) (run : ℕ) → position (is_of run) flights ≡ None → IsNone flights run
 not_placed flights run is = beyond flights run (no_place (position_or_len (is_of run) flights) (length flights) is)
 
+-- the same of a slice of the flights, as a search of it says
+pub placed_in : (flights slice : List Flight) (run at : ℕ) (flight : Flight) → slice ≡ flights → Some at ≡ position (is_of run) slice
+    → flight ≡ get_or flights at flight → IsFirst flights run at flight
+placed_in flights slice run at flight same is there = placed flights run at flight (ap (position (is_of run)) (sym same) ∙ sym is) there
+
+pub not_placed_in : (flights slice : List Flight) (run : ℕ) → slice ≡ flights → None ≡ position (is_of run) slice → IsNone flights run
+not_placed_in flights slice run same is = not_placed flights run (ap (position (is_of run)) (sym same) ∙ sym is)
+
 -- a flight that is found has the number
 pub found_run : (flights : List Flight) (run : ℕ) (flight : Flight) → flight_in flights run ≡ Some flight → flight.run ≡ run
 found_run [] run flight is = absurd (cc)

@@ -1,7 +1,9 @@
 -- Every move keeps what holds of a world.
-use Rattle.std.proofs.Common.{◌≡◌, ℕ, ◌+◌, ◌^◌, ◌<◌, ◌≤◌, ◌==◌, nat_le, nat_lt, cond, Bool, true, false, List, [], ◌∷◌, ◌++◌, length, Option, Some, None, refl, sym, ap, ◌∙◌, subst, arith, Result, Ok, Err}
+use Rattle.std.proofs.Common.{◌≡◌, ℕ, suc, ◌+◌, ◌^◌, ◌<◌, ◌≤◌, ◌==◌, nat_le, nat_lt, cond, Bool, true, false, IsTrue, List, [], ◌∷◌, ◌++◌, length, take, drop, get_or, Option, Some, None, refl, sym, ap, ◌∙◌, subst, arith, Result, Ok, Err}
 use Rattle.std.specs.Prelude.{OnOk, OnErr}
 use Rattle.std.proofs.lemmas.Bool.{leb-true, ltb-true}
+use Rattle.std.proofs.lemmas.List.{take_more, take-append-drop}
+use Rattle.std.proofs.Math.Seq.{drop-cons}
 use Rattle.ph_base.specs.declared.acquirer.Ruling.{Ruling}
 use Rattle.ph_base.specs.declared.acquirer.Why.{Why}
 use Rattle.ph_base.specs.declared.acquirer.Why.TheVariants as why
@@ -27,9 +29,12 @@ use Rattle.ph_book.proofs.StepLemmas.{finish_room, park_room}
 use Rattle.ph_world.specs.declared.ask.Ask.{Ask}
 use Rattle.ph_world.specs.declared.moves.Move.{Move}
 use Rattle.ph_world.specs.declared.moves.Move.TheVariants as move
+use Rattle.ph_world.specs.declared.moves.WorldError.{WorldError}
+use Rattle.ph_world.specs.declared.moves.WorldError.TheVariants as error
 use Rattle.ph_world.specs.Flights.{AllInHand, finish_of, flight_in, park_of, without}
 use Rattle.ph_world.specs.Laws.{AllAreOrders, HasBegun, IsFit, IsLive, IsOrder, IsReached, RulingsAreDecisions, doings_in}
-use Rattle.ph_world.specs.Moves.{after_move, after_moves, is_caller, is_possible, moved}
+use Rattle.ph_world.specs.Moves.{after_move, after_moves, is_caller, is_possible, is_refused, moved}
+use Rattle.ph_world.specs.Playing.{StopsAt}
 use Rattle.ph_world.specs.Worlds.{WorldState, decided, enter, given_up, new_world, polled, ruled, with_ask, with_end, with_entry}
 use Rattle.ph_world.proofs.EntryLemmas.{Goes, call_goes, finish_goes, lawful, park_goes, resume_goes, tick_goes}
 use Rattle.ph_world.proofs.RisingLemmas.{one_goes}
@@ -297,3 +302,28 @@ pub reached_step : {X E : Type 0} (result : Result X E) (old new : WorldState) (
     → OnOk result (new ≡ after_move old m) → OnErr result (new ≡ old) → IsReached new
 reached_step (Ok x) old new m reached ok err = subst IsReached (sym ok) (reached_after old m reached)
 reached_step (Err x) old new m reached ok err = subst IsReached (sym err) reached
+
+-- ---- lists that are played
+
+-- a move more
+pub plays_on : (old : WorldState) (moves : List Move) (at : ℕ) (m : Move) (before after : WorldState) → at < length moves → m ≡ get_or moves at m
+    → before ≡ after_moves old (take at moves) → after ≡ after_move before m → after ≡ after_moves old (take (at + 1) moves)
+plays_on old moves at m before after within here led is =
+    is ∙ ap (λ (w : WorldState). after_move w m) led ∙ sym (one_more old (take at moves) m)
+    ∙ ap (λ (next : Move). after_moves old (take at moves ++ next ∷ [])) here
+    ∙ ap (after_moves old) (sym (take_more moves at m within))
+
+-- a move that is refused
+pub stops_at : (old : WorldState) (moves : List Move) (at : ℕ) (m : Move) (before after : WorldState) (why : WorldError)
+    → at < length moves → m ≡ get_or moves at m → before ≡ after_moves old (take at moves) → after ≡ before
+    → (why ≡ error.Full → IsTrue (is_refused before.book m)) → StopsAt old moves after why
+stops_at old moves at m before after why within here led same full = record {
+  played = take at moves;
+  refused = m;
+  left = drop (suc at) moves;
+  moves_are = sym (take-append-drop at moves)
+      ∙ ap (λ (rest : List Move). take at moves ++ rest)
+      (drop-cons moves at m within ∙ ap (λ (next : Move). next ∷ drop (suc at) moves) (sym here));
+  stands = same ∙ led;
+  full = λ is. subst (λ (w : WorldState). IsTrue (is_refused w.book m)) (sym same) (full is);
+}

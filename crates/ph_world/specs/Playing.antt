@@ -1,5 +1,5 @@
 -- A list of moves that is played up to a refusal, and the end of a world.
-use Rattle.std.specs.Prelude.{◌≡◌, ◌↔◌, List, [], ◌∷◌, ◌++◌, map, IsTrue}
+use Rattle.std.specs.Prelude.{◌≡◌, List, [], ◌∷◌, ◌++◌, map, IsTrue}
 use Rattle.ph_attempts.specs.declared.flights.Flight.{Flight}
 use Rattle.ph_base.specs.declared.acquirer.Why.TheVariants as why
 use Rattle.ph_book.specs.declared.acts.Entry.{Entry}
@@ -11,15 +11,15 @@ use Rattle.ph_world.specs.declared.moves.WorldError.TheVariants as error
 use Rattle.ph_world.specs.Moves.{after_moves, is_refused}
 use Rattle.ph_world.specs.Worlds.{WorldState}
 
--- what was played before a move that was refused: the moves before it stand, and Full is answered exactly where the history
--- has no room for it
+-- what was played before a move that was refused: the moves before it stand, and Full is answered only where the history has
+-- no room for it
 pub record StopsAt (old : WorldState) (moves : List Move) (new : WorldState) (why : WorldError) : Type 0 where
   pub played : List Move
   pub refused : Move
   pub left : List Move
   pub moves_are : moves ≡ played ++ refused ∷ left
   pub stands : new ≡ after_moves old played
-  pub full : (why ≡ error.Full) ↔ IsTrue (is_refused new.book refused)
+  pub full : why ≡ error.Full → IsTrue (is_refused new.book refused)
 
 -- a flight is given up while the acquirer's ruling is pending
 abbrev pub dropped_entry : Flight → Entry

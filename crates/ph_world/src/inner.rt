@@ -57,8 +57,10 @@ fn ruling_of(decisions: &[Decision], reference: u64) -> Option<Ruling>
 fn order_of(tickets: &[Ticket], run: u64) -> Option<Order>
     ensures { result ≡ option_map (λ flight. flight.order) (flight_in tickets.now run) }
 {
-    let at = place_of(tickets, run)?;
-    Some(*tickets[at].order())
+    match place_of(tickets, run) {
+        None => None,
+        Some(at) => Some(*tickets[at].order()),
+    }
 }
 
 // Why a move was refused that the book refused so.
@@ -183,12 +185,19 @@ impl Inner {
             return Ok(None);
         };
         self.asks.reserve(1)?;
-        let reply = match ruling_of(self.decisions.as_slice(), order.reference) {
-            None => None,
-            Some(ruling) => finish_run(&mut self.book, &mut self.tickets, run, ruling)?,
-        };
-        self.asks.push_reserved(Ask { run, order });
-        Ok(reply)
+        let ask = Ask { run, order };
+        let reference = order.reference;
+        match ruling_of(self.decisions.as_slice(), reference) {
+            None => {
+                self.asks.push_reserved(ask);
+                Ok(None)
+            }
+            Some(ruling) => {
+                let reply = finish_run(&mut self.book, &mut self.tickets, run, ruling)?;
+                self.asks.push_reserved(ask);
+                Ok(reply)
+            }
+        }
     }
 
     // Decides a reference, unless it was decided before.
@@ -196,10 +205,15 @@ impl Inner {
         ensures after { OnOk result (self.new ≡ decided self.old reference ruling) }
         ensures unchanged { OnErr result (self.new ≡ self.old) }
     {
-        if ruling_of(self.decisions.as_slice(), reference).is_none() {
-            self.decisions.push(Decision { reference, ruling })?;
+        match ruling_of(self.decisions.as_slice(), reference) {
+            Some(_) => Ok(()),
+            None => {
+                self.decisions.reserve(1)?;
+                self.decisions
+                    .push_reserved(Decision { reference, ruling });
+                Ok(())
+            }
         }
-        Ok(())
     }
 
     // Carries out a move that can be made.
