@@ -141,6 +141,13 @@ pub ended_reply : (old : WorldState) (before after : BookState) (flights : List 
 ended_reply old before after flights decisions asks entry view is =
     sym (replied_end before entry) ∙ ap (replied before) (sym is) ∙ ap (λ (w : WorldState). replied w.book after) view
 
+-- a world whose parts are as they were
+pub stays_is : (old : WorldState) (before after : BookState) (flights now : List Flight) (decisions : List Decision) (asks more : List Ask)
+    → record { book = before; flights = flights; decisions = decisions; asks = asks } ≡ old → after ≡ before → now ≡ flights → more ≡ asks
+    → record { book = after; flights = now; decisions = decisions; asks = more } ≡ old
+stays_is old before after flights now decisions asks more view book_is flights_are asks_are =
+    (λ i. record { book = book_is i; flights = flights_are i; decisions = decisions; asks = asks_are i }) ∙ view
+
 -- ---- polls
 
 order_found : (found : Option Flight) (order : Order) → option_map (λ (flight : Flight). flight.order) found ≡ Some order

@@ -1,5 +1,5 @@
 -- The runs in flight are given up one by one, and none is live then.
-use Rattle.std.proofs.Common.{◌≡◌, ◌≢◌, ℕ, ◌+◌, ◌^◌, ◌<◌, ◌≤◌, List, [], ◌∷◌, ◌++◌, length, map, Option, Some, None, refl, sym, ap, ◌∙◌, subst, arith}
+use Rattle.std.proofs.Common.{◌≡◌, ◌≢◌, ℕ, ◌+◌, ◌^◌, ◌<◌, ◌≤◌, List, [], ◌∷◌, ◌++◌, length, map, get_or, remove, Option, Some, None, refl, sym, ap, ◌∙◌, subst, arith}
 use Rattle.std.proofs.lemmas.List.{append-nil, append_assoc}
 use Rattle.ph_attempts.specs.declared.flights.Flight.{Flight}
 use Rattle.ph_base.specs.declared.acquirer.Why.TheVariants as why
@@ -64,6 +64,18 @@ pub left_in_hand : (before after : BookState) (ticket : Flight) (tickets : List 
     → AreApart (ticket ∷ tickets) → AllInHand before (ticket ∷ tickets) → after ≡ entered before (dropped_entry ticket) → AllInHand after tickets
 left_in_hand before after ticket tickets runs apart hand is =
     subst (λ (book : BookState). AllInHand book tickets) (sym is) (still_in_hand before ticket tickets runs apart.0 hand.1)
+
+-- the first of tickets, and those behind it
+pub head_is : (tickets : List Flight) (ticket : Flight) (rest : List Flight) → 0 < length tickets → ticket ≡ get_or tickets 0 ticket
+    → rest ≡ remove tickets 0 → tickets ≡ ticket ∷ rest
+head_is [] ticket rest some is left = absurd (omega (arith, some))
+head_is (first ∷ tickets) ticket rest some is left = λ i. sym is i ∷ sym left i
+
+-- what holds of the setup and the history that a book lends
+pub runs_as : (book : BookState) (setup : Setup) (history : List Entry) → setup ≡ book.setup → history ≡ book.history
+    → RunsFollow setup history → RunsFollow book.setup book.history
+runs_as book setup history one two runs =
+    subst (λ (s : Setup). RunsFollow s book.history) one (subst (λ (h : List Entry). RunsFollow setup h) two runs)
 
 -- what is left to be given up
 pub ended_more : (before after : BookState) (ticket : Flight) (tickets : List Flight) → after ≡ entered before (dropped_entry ticket)

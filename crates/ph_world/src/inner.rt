@@ -1,5 +1,5 @@
 //! What a world is made of, each move of which is carried out where the tickets are in hand.
-ghost use Rattle.std.specs.Prelude.{◌≡◌, ◌<◌, ◌≤◌, ◌^◌, true, false, length, option_map, IfOk, IfErr, OnOk, OnErr, IsTrue};
+ghost use Rattle.std.specs.Prelude.{◌≡◌, ◌<◌, ◌≤◌, ◌^◌, true, false, length, Some, option_map, IfOk, IfErr, OnOk, OnErr, IsTrue};
 ghost use Rattle.ph_bank.specs.Scripts as script;
 ghost use Rattle.ph_items.specs.Clocks.{clock_limit};
 ghost use Rattle.ph_book.specs.declared.acts.Deed.TheVariants as deed;
@@ -181,9 +181,20 @@ impl Inner {
         ensures reply { IfOk result (λ reply. reply ≡ replied self.old.book self.new.book) }
         ensures unchanged { OnErr result (self.new ≡ self.old) }
     {
-        let Some(order) = order_of(self.tickets.as_slice(), run) else {
-            return Ok(None);
-        };
+        match order_of(self.tickets.as_slice(), run) {
+            None => Ok(None),
+            Some(order) => self.ask(run, order),
+        }
+    }
+
+    // Asks under the order of a run in flight, and enters what is decided of it.
+    fn ask(&mut self, run: u64, order: Order) -> Result<Option<Reply>, NoMemory>
+        requires in_hand { AllInHand self.old.book self.old.flights }
+        requires order { Some order ≡ option_map (λ flight. flight.order) (flight_in self.old.flights run) }
+        ensures after { OnOk result (self.new ≡ polled self.old (flight_in self.old.flights run)) }
+        ensures reply { IfOk result (λ reply. reply ≡ replied self.old.book self.new.book) }
+        ensures unchanged { OnErr result (self.new ≡ self.old) }
+    {
         self.asks.reserve(1)?;
         let ask = Ask { run, order };
         let reference = order.reference;

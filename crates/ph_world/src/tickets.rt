@@ -101,15 +101,17 @@ pub fn finish_run(
     ensures reply { IfOk result (λ reply. reply ≡ reply_to book.old (finish_of ruling (flight_in tickets.old.items run))) }
     ensures unchanged { OnErr result ((book.new ≡ book.old) × (tickets.new.items ≡ tickets.old.items)) }
 {
-    let Some(at) = place_of(tickets.as_slice(), run) else {
-        return Ok(None);
-    };
-    let ticket = tickets.remove(at);
-    match finish(book, ticket, ruling) {
-        Ok(reply) => Ok(Some(reply)),
-        Err(ticket) => {
-            put_back(tickets, at, ticket);
-            Err(NoMemory)
+    match place_of(tickets.as_slice(), run) {
+        None => Ok(None),
+        Some(at) => {
+            let ticket = tickets.remove(at);
+            match finish(book, ticket, ruling) {
+                Ok(reply) => Ok(Some(reply)),
+                Err(ticket) => {
+                    put_back(tickets, at, ticket);
+                    Err(NoMemory)
+                }
+            }
         }
     }
 }
