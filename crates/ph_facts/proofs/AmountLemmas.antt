@@ -58,6 +58,8 @@ captured_named rows (item.Attempt attempt) part e there = absurd (cc)
 captured_named rows (item.Charge charge) part e there = absurd (cc)
 captured_named rows (item.Refund refund) part e there = absurd (cc)
 captured_named rows (item.Dispute dispute) part e there = absurd (cc)
+captured_named rows (item.Transfer transfer) part e there = absurd (cc)
+captured_named rows (item.Fee fee) part e there = absurd (cc)
 captured_named rows (item.Txn txn) part e there =
     let within = origin_within rows (record { kind = source_kind txn.source; number = source_number txn.source }) there.0 in
     let to = captured_to txn.sort (source_number txn.source) txn.amount part e in
@@ -75,6 +77,8 @@ refunded_named rows (item.Refund refund) part e there =
     let to : refund.charge ≡ part.object = ap (λ (p : Addition ℕ). p.object) same in
     omega (arith, within, to)
 refunded_named rows (item.Dispute dispute) part e there = absurd (cc)
+refunded_named rows (item.Transfer transfer) part e there = absurd (cc)
+refunded_named rows (item.Fee fee) part e there = absurd (cc)
 refunded_named rows (item.Txn txn) part e there = absurd (cc)
 refunded_named rows (item.Event event) part e there = absurd (cc)
 
@@ -92,6 +96,8 @@ moved_named rows (item.Attempt attempt) part e there = absurd (cc)
 moved_named rows (item.Charge charge) part e there = absurd (cc)
 moved_named rows (item.Refund refund) part e there = absurd (cc)
 moved_named rows (item.Dispute dispute) part e there = absurd (cc)
+moved_named rows (item.Transfer transfer) part e there = absurd (cc)
+moved_named rows (item.Fee fee) part e there = absurd (cc)
 moved_named rows (item.Txn txn) part e there =
     let within = origin_within rows (record { kind = source_kind txn.source; number = source_number txn.source }) there.0 in
     let to = moved_to txn.source (record { amount = txn.amount; fee = txn.fee }) part e in

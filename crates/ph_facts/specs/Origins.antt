@@ -35,6 +35,8 @@ origins_of (item.Attempt attempt) = record { kind = kind.Intent; number = attemp
 origins_of (item.Charge charge) = charge_origin charge.sort ∷ []
 origins_of (item.Refund refund) = record { kind = kind.Charge; number = refund.charge } ∷ []
 origins_of (item.Dispute dispute) = record { kind = kind.Charge; number = dispute.charge } ∷ []
+origins_of (item.Transfer transfer) = []
+origins_of (item.Fee fee) = []
 origins_of (item.Txn txn) = record { kind = source_kind txn.source; number = source_number txn.source } ∷ []
 origins_of (item.Event event) = []
 
@@ -61,5 +63,7 @@ is_made_once (item.Attempt attempt) = false
 is_made_once (item.Charge charge) = false
 is_made_once (item.Refund refund) = true
 is_made_once (item.Dispute dispute) = false
+is_made_once (item.Transfer transfer) = false
+is_made_once (item.Fee fee) = false
 is_made_once (item.Txn txn) = true
 is_made_once (item.Event event) = true

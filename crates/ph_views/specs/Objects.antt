@@ -37,6 +37,8 @@ version_doc created object (item.Attempt attempt) = Null
 version_doc created object (item.Charge charge) = charge_doc created object charge
 version_doc created object (item.Refund refund) = refund_doc created object refund
 version_doc created object (item.Dispute dispute) = dispute_doc created object dispute
+version_doc created object (item.Transfer transfer) = account_doc created object account
+version_doc created object (item.Fee fee) = account_doc created object account
 version_doc created object (item.Txn txn) = Null
 version_doc created object (item.Event event) = Null
 
