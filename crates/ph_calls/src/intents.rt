@@ -1,7 +1,9 @@
 //! The calls on payment intents, each of an id and a form.
-ghost use Rattle.std.specs.Prelude.{◌≡◌, IfErr, IfOk, Ok};
+ghost use Rattle.std.specs.Prelude.{◌≡◌, ◌==◌, ◌&&◌, not, is_none, nat_lt, unwrap_or, IfErr, IfOk, Ok};
+ghost use Rattle.std.specs.Option.{is_some};
+ghost use Rattle.ph_items.specs.Accounts.{platform};
 ghost use Rattle.ph_calls.specs.Check.{Refuses};
-ghost use Rattle.ph_calls.specs.Intents.{authenticate_intent, cancel_intent, capture_intent, confirm_intent, create_intent, create_intent_error, update_intent};
+ghost use Rattle.ph_calls.specs.Intents.{authenticate_intent, cancel_intent, capture_intent, confirm_intent, connect_error, create_intent, create_intent_error, update_intent};
 ghost use Rattle.ph_calls.specs.Parameters.{given};
 ghost use Rattle.ph_calls.specs.Table.{params_of};
 
@@ -9,14 +11,20 @@ use crate::call::{
     Authenticate, CancelIntent, CaptureIntent, ConfirmIntent, CreateIntent, UpdateIntent,
 };
 use crate::params::{
-    amount, authentication, cancellation_reason, capture_method, currency, metadata, method,
+    amount, authentication, cancellation_reason, capture_method, currency, id, metadata, method,
     required, text, truth,
 };
 use crate::row::Name;
 use ph_base::{Bytes, NoMemory};
 use ph_errors::{ApiError, Refusal};
 use ph_form::Form;
+use ph_items::PLATFORM;
+use ph_money::Amount;
 use std::alloc::Global;
+
+const FEE_NAME: &[u8] = b"application_fee_amount";
+
+const DESTINATION_NAME: &[u8] = b"transfer_data[destination]";
 
 /// The create of a form; it isn't confirmed where nothing is said of that.
 #[tactic(auto, unfolding(crate::specs::Parameters::given))]
@@ -32,14 +40,52 @@ pub fn create_intent(alloc: Global, form: &Form) -> Result<CreateIntent, Refusal
         capture_method: capture_method(alloc, form, b"capture_method")?,
         description: text(alloc, form, b"description", 1000)?,
         metadata: metadata(alloc, form, b"metadata")?,
+        application_fee_amount: amount(alloc, form, b"application_fee_amount")?,
+        destination: id(alloc, form, b"transfer_data[destination]")?,
         transfer_group: text(alloc, form, b"transfer_group", 255)?,
     })
 }
 
+// Whether an application fee is above an amount.
+fn is_above(fee: Option<Amount>, amount: Amount) -> bool
+    ensures { result ≡ nat_lt amount (unwrap_or fee 0) }
+{
+    match fee {
+        Some(fee) => amount < fee,
+        None => false,
+    }
+}
+
+// The error of the first of the further checks that fails which speak of an application fee and a destination.
+fn connect_error(
+    alloc: Global,
+    account: u64,
+    call: &CreateIntent,
+) -> Result<Option<ApiError>, NoMemory>
+    ensures { IfOk result (λ error. error ≡ connect_error account call.now) }
+{
+    let ours = account == PLATFORM;
+    if is_above(call.application_fee_amount, call.amount) {
+        return Ok(Some(ApiError::invalid_value(alloc, FEE_NAME)?));
+    }
+    if call.application_fee_amount.is_some() && ours && call.destination.is_none() {
+        return Ok(Some(ApiError::invalid_value(alloc, FEE_NAME)?));
+    }
+    if call.destination.is_some() && !ours {
+        return Ok(Some(ApiError::invalid_value(alloc, DESTINATION_NAME)?));
+    }
+    Ok(None)
+}
+
 /// The error of the first further check that fails: an amount below the currency's minimum, then a confirm without a
-/// payment method.
-pub fn create_intent_error(alloc: Global, call: &CreateIntent) -> Result<Option<ApiError>, NoMemory>
-    ensures { IfOk result (λ error. error ≡ create_intent_error call.now) }
+/// payment method, an application fee above the amount, one of the platform without a destination, and a destination of a
+/// connected account.
+pub fn create_intent_error(
+    alloc: Global,
+    account: u64,
+    call: &CreateIntent,
+) -> Result<Option<ApiError>, NoMemory>
+    ensures { IfOk result (λ error. error ≡ create_intent_error account call.now) }
 {
     if call.amount < call.currency.minimum() {
         return Ok(Some(ApiError::amount_too_small(alloc)?));
@@ -47,7 +93,7 @@ pub fn create_intent_error(alloc: Global, call: &CreateIntent) -> Result<Option<
     if call.confirm && call.payment_method.is_none() {
         return Ok(Some(ApiError::parameter_missing(alloc, b"payment_method")?));
     }
-    Ok(None)
+    connect_error(alloc, account, call)
 }
 
 /// The update of the payment intent with this id, of a form.
@@ -63,6 +109,7 @@ pub fn update_intent(alloc: Global, id: &[u8], form: &Form) -> Result<UpdateInte
         payment_method: method(alloc, form, b"payment_method")?,
         description: text(alloc, form, b"description", 1000)?,
         metadata: metadata(alloc, form, b"metadata")?,
+        application_fee_amount: amount(alloc, form, b"application_fee_amount")?,
         transfer_group: text(alloc, form, b"transfer_group", 255)?,
     })
 }
@@ -88,6 +135,7 @@ pub fn capture_intent(alloc: Global, id: &[u8], form: &Form) -> Result<CaptureIn
     Ok(CaptureIntent {
         id: Bytes::from_slice(alloc, id)?,
         amount_to_capture: amount(alloc, form, b"amount_to_capture")?,
+        application_fee_amount: amount(alloc, form, b"application_fee_amount")?,
     })
 }
 

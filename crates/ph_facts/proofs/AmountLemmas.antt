@@ -48,7 +48,10 @@ moved_sum = record {
 -- a transaction of a type adds to its source
 captured_to : (type : TxnType) (number : ℕ) (amount : ℤ) (part : Addition ℤ) → captured_by type number amount ≡ Some part → part.object ≡ number
 captured_to sort.Charge number amount part e = let same : record { object = number; amount = amount } ≡ part = cc in sym (ap (λ (p : Addition ℤ). p.object) same)
+captured_to sort.Payment number amount part e = let same : record { object = number; amount = amount } ≡ part = cc in sym (ap (λ (p : Addition ℤ). p.object) same)
 captured_to sort.Refund number amount part e = absurd (cc)
+captured_to sort.Transfer number amount part e = absurd (cc)
+captured_to sort.ApplicationFee number amount part e = absurd (cc)
 captured_to sort.Adjustment number amount part e = absurd (cc)
 
 pub captured_named : AddsToNamed captured
@@ -85,9 +88,12 @@ refunded_named rows (item.Event event) part e there = absurd (cc)
 -- a transaction from a source adds to that
 moved_to : (from : TxnSource) (move : Move) (part : Addition (List Move)) → moved_by from move ≡ Some part → part.object ≡ source_number from
 moved_to (source.Charge number) move part e = absurd (cc)
+moved_to (source.Payment number) move part e = absurd (cc)
 moved_to (source.Refund number) move part e = absurd (cc)
 moved_to (source.Dispute number) move part e =
     let same : record { object = number; amount = move ∷ [] } ≡ part = cc in sym (ap (λ (p : Addition (List Move)). p.object) same)
+moved_to (source.Transfer number) move part e = absurd (cc)
+moved_to (source.Fee number) move part e = absurd (cc)
 
 pub moved_named : AddsToNamed moved
 moved_named rows (item.Account account) part e there = absurd (cc)
