@@ -1,11 +1,11 @@
 -- What requests come to keeps the rows sound, by the law of each call.
 use Rattle.std.proofs.Common.{◌≡◌, ℕ, ◌+◌, ◌≤◌, Bool, true, false, cond, not, nat_lt, List, Option, None, Some, Result, Ok, Err, refl, arith, codes, IfOk}
+use Rattle.std.specs.Option.{option_or}
 use Rattle.std.proofs.lemmas.Bool.Decides.{nat_tests}
 use Rattle.ph_base.specs.declared.ids.Kind.{Kind}
 use Rattle.ph_base.specs.declared.ids.Kind.TheVariants as kind
 use Rattle.ph_errors.specs.declared.api_error.ApiError.{ApiError}
 use Rattle.ph_errors.specs.Table.{ClockBackwards, InvalidApiKey, NoSuchAccount, error_of}
-use Rattle.ph_items.specs.Accounts.{platform}
 use Rattle.ph_items.specs.Clocks.{clock_limit}
 use Rattle.ph_rows.specs.declared.rows.Row.{Row}
 use Rattle.ph_rows.specs.Names.{owned_named}
@@ -37,7 +37,10 @@ use Rattle.ph_intents.proofs.KeepsLemmas.{create_keeps, create_confirmed_keeps, 
 use Rattle.ph_refunds.proofs.LawLemmas.{refund_keeps}
 use Rattle.ph_disputes.proofs.AnswerLemmas.{close_keeps, evidence_keeps}
 use Rattle.ph_disputes.proofs.OpeningLemmas.{open_due_keeps}
-use Rattle.ph_book.specs.Calls.{Upshot, Rejects, Makes, Shows, Sets, and_opened, authenticated, called_at, carried, clock_set, found_outcome, is_key, is_platform, read_upshot, retrieved}
+use Rattle.ph_accounts.specs.Create as accounts
+use Rattle.ph_accounts.specs.Naming.{account_of}
+use Rattle.ph_accounts.proofs.EntryLemmas as new_accounts
+use Rattle.ph_book.specs.Calls.{Upshot, Rejects, Makes, Shows, Sets, and_opened, authenticated, called_at, carried, clock_set, account_upshot, found_outcome, is_key, payment_named, read_upshot, retrieved}
 use Rattle.ph_book.proofs.ErrorLemmas.{IfRefused, IsAnswered, answered, chosen, reading_answered}
 
 -- the error of a request that is no call can be answered; what a call comes to keeps the rows sound; or the clock is set to a moment
@@ -49,9 +52,9 @@ KeepsCall state (Shows doc) = Unit {0}
 KeepsCall state (Sets moment) = (state.time ≤ moment) × (moment ≤ clock_limit)
 
 -- a retrieve
-retrieved_keeps : (state : ViewState) (entry : ℕ) (wanted : Kind) (id : List ℕ) → IsSound state
-    → KeepsRows state most_rows (retrieved state.rows wanted id (batch_after state entry))
-retrieved_keeps state entry wanted id sound = kept_few state 0 most_rows (retrieved state.rows wanted id (batch_after state entry)) (at (owned_named state.rows platform wanted id)) (omega arith)
+retrieved_keeps : (state : ViewState) (entry account : ℕ) (wanted : Kind) (id : List ℕ) → IsSound state
+    → KeepsRows state most_rows (retrieved state.rows account wanted id (batch_after state entry))
+retrieved_keeps state entry account wanted id sound = kept_few state 0 most_rows (retrieved state.rows account wanted id (batch_after state entry)) (at (option_or (owned_named state.rows account wanted id) (payment_named state.rows account wanted id))) (omega arith)
   where
     at : (found : Option Row) → KeepsRows state 0 (found_outcome found (batch_after state entry))
     at None = no_object (codes "id")
@@ -67,10 +70,10 @@ opened_keeps state most (Adds touch object batch) ready less keeps =
     kept_few state (most + 4) most_rows (and_opened state.rows (Adds touch object batch))
     (open_due_keeps state most touch batch object ready.sound keeps.0 (omega arith), keeps.1) less
 
-authenticated_keeps : (state : ViewState) (entry : ℕ) (c : Authenticate) (outcome : Authentication) → IsReady state
-    → KeepsRows state 2 (authenticated state.rows c (batch_after state entry) outcome)
-authenticated_keeps state entry c Succeeded ready = authenticate_keeps state entry platform c ready refl
-authenticated_keeps state entry c Failed ready = fail_authentication_keeps state entry platform c ready refl
+authenticated_keeps : (state : ViewState) (entry account : ℕ) (c : Authenticate) (outcome : Authentication) → IsReady state
+    → KeepsRows state 2 (authenticated state.rows account c (batch_after state entry) outcome)
+authenticated_keeps state entry account c Succeeded ready = authenticate_keeps state entry account c ready refl
+authenticated_keeps state entry account c Failed ready = fail_authentication_keeps state entry account c ready refl
 
 backwards : is_refusal (error_of ClockBackwards) ≡ true
 unfolding error_of
@@ -84,37 +87,43 @@ clock_keeps state moment shown = at (nat_lt moment state.time) refl
     at false e = (grind (arith, nat_tests), shown)
 
 -- a call that is carried out: one line for each row of the table of calls
-carried_keeps : (state : ViewState) (entry : ℕ) (c : Call) → IsReady state → calls.IsFit c → KeepsCall state (carried state.rows state.time c (batch_after state entry))
-carried_keeps state entry (call.CreateIntent c) ready fit =
-    chosen (KeepsRows state most_rows) c.confirm (create_confirmed_outcome state.rows platform c (batch_after state entry))
-    (create_outcome state.rows platform c (batch_after state entry))
-    (kept_few state 3 most_rows (create_confirmed_outcome state.rows platform c (batch_after state entry)) (create_confirmed_keeps state entry platform c ready fit.texts) (omega arith))
-    (kept_few state 2 most_rows (create_outcome state.rows platform c (batch_after state entry)) (create_keeps state entry platform c ready fit.texts) (omega arith))
-carried_keeps state entry (call.UpdateIntent c) ready fit = kept_few state 1 most_rows (update_outcome state.rows platform c (batch_after state entry)) (update_keeps state entry platform c ready fit.texts) (omega arith)
-carried_keeps state entry (call.ConfirmIntent c) ready fit = kept_few state 2 most_rows (confirm_outcome state.rows platform c (batch_after state entry)) (confirm_keeps state entry platform c ready fit.texts) (omega arith)
-carried_keeps state entry (call.CaptureIntent c) ready fit =
-    opened_keeps state 5 (capture_outcome state.rows platform c (batch_after state entry)) ready (omega arith) (capture_keeps state entry platform c ready refl)
-carried_keeps state entry (call.CancelIntent c) ready fit = kept_few state 2 most_rows (cancel_outcome state.rows platform c (batch_after state entry)) (cancel_keeps state entry platform c ready refl) (omega arith)
-carried_keeps state entry (call.CreateRefund c) ready fit = kept_few state 4 most_rows (refund_outcome state.rows platform c (batch_after state entry)) (refund_keeps state entry platform c ready fit.texts) (omega arith)
-carried_keeps state entry (call.SendEvidence c) ready fit = kept_few state 3 most_rows (evidence_outcome state.rows platform c (batch_after state entry)) (evidence_keeps state entry platform c ready fit.texts) (omega arith)
-carried_keeps state entry (call.CloseDispute c) ready fit = kept_few state 2 most_rows (close_outcome state.rows platform c (batch_after state entry)) (close_keeps state entry platform c ready refl) (omega arith)
-carried_keeps state entry (call.Retrieve c) ready fit = retrieved_keeps state entry c.kind c.id ready.sound
-carried_keeps state entry (call.GetBalance c) ready fit = tt
-carried_keeps state entry (call.SetClock c) ready fit = clock_keeps state c.now fit.shown
-carried_keeps state entry (call.Authenticate c) ready fit = kept_few state 2 most_rows (authenticated state.rows c (batch_after state entry) c.outcome) (authenticated_keeps state entry c c.outcome ready) (omega arith)
+carried_keeps : (state : ViewState) (entry account : ℕ) (c : Call) → IsReady state → calls.IsFit c → KeepsCall state (carried state.rows account state.time c (batch_after state entry))
+carried_keeps state entry account (call.CreateIntent c) ready fit =
+    chosen (KeepsRows state most_rows) c.confirm (create_confirmed_outcome state.rows account c (batch_after state entry))
+    (create_outcome state.rows account c (batch_after state entry))
+    (kept_few state 3 most_rows (create_confirmed_outcome state.rows account c (batch_after state entry)) (create_confirmed_keeps state entry account c ready fit.texts) (omega arith))
+    (kept_few state 2 most_rows (create_outcome state.rows account c (batch_after state entry)) (create_keeps state entry account c ready fit.texts) (omega arith))
+carried_keeps state entry account (call.UpdateIntent c) ready fit = kept_few state 1 most_rows (update_outcome state.rows account c (batch_after state entry)) (update_keeps state entry account c ready fit.texts) (omega arith)
+carried_keeps state entry account (call.ConfirmIntent c) ready fit = kept_few state 2 most_rows (confirm_outcome state.rows account c (batch_after state entry)) (confirm_keeps state entry account c ready fit.texts) (omega arith)
+carried_keeps state entry account (call.CaptureIntent c) ready fit =
+    opened_keeps state 13 (capture_outcome state.rows account c (batch_after state entry)) ready (omega arith) (capture_keeps state entry account c ready refl)
+carried_keeps state entry account (call.CancelIntent c) ready fit = kept_few state 2 most_rows (cancel_outcome state.rows account c (batch_after state entry)) (cancel_keeps state entry account c ready refl) (omega arith)
+carried_keeps state entry account (call.CreateRefund c) ready fit = kept_few state 4 most_rows (refund_outcome state.rows account c (batch_after state entry)) (refund_keeps state entry account c ready fit.texts) (omega arith)
+carried_keeps state entry account (call.SendEvidence c) ready fit = kept_few state 3 most_rows (evidence_outcome state.rows account c (batch_after state entry)) (evidence_keeps state entry account c ready fit.texts) (omega arith)
+carried_keeps state entry account (call.CloseDispute c) ready fit = kept_few state 2 most_rows (close_outcome state.rows account c (batch_after state entry)) (close_keeps state entry account c ready refl) (omega arith)
+carried_keeps state entry account (call.Retrieve c) ready fit = retrieved_keeps state entry account c.kind c.id ready.sound
+carried_keeps state entry account (call.CreateAccount c) ready fit = kept_few state 1 most_rows (accounts.create_outcome state.rows account c (batch_after state entry)) (new_accounts.create_keeps state entry account c ready fit.texts) (omega arith)
+carried_keeps state entry account (call.GetBalance c) ready fit = tt
+carried_keeps state entry account (call.SetClock c) ready fit = clock_keeps state c.now fit.shown
+carried_keeps state entry account (call.Authenticate c) ready fit = kept_few state 2 most_rows (authenticated state.rows account c (batch_after state entry) c.outcome) (authenticated_keeps state entry account c c.outcome ready) (omega arith)
 
-read_keeps : (state : ViewState) (entry : ℕ) (reading : Result Call ApiError) → IsReady state → IfRefused reading → IfOk reading calls.IsFit
-    → KeepsCall state (read_upshot state.rows state.time reading (batch_after state entry))
-read_keeps state entry (Err error) ready refused fit = refused
-read_keeps state entry (Ok c) ready refused fit = carried_keeps state entry c ready fit
+read_keeps : (state : ViewState) (entry account : ℕ) (reading : Result Call ApiError) → IsReady state → IfRefused reading
+    → IfOk reading calls.IsFit → KeepsCall state (read_upshot state.rows account state.time reading (batch_after state entry))
+read_keeps state entry account (Err error) ready refused fit = refused
+read_keeps state entry account (Ok c) ready refused fit = carried_keeps state entry account c ready fit
+
+-- by the account that it is of
+account_keeps : (state : ViewState) (entry : ℕ) (raw : Raw) (account : Option ℕ) → IsReady state
+    → KeepsCall state (account_upshot state.rows state.time entry raw account)
+account_keeps state entry raw None ready = answered NoSuchAccount
+account_keeps state entry raw (Some account) ready =
+    read_keeps state entry account (reading_of account raw) ready (reading_answered account raw) (reading_fit account raw)
 
 -- what a request comes to
 pub called_keeps : (key : List ℕ) (state : ViewState) (entry : ℕ) (raw : Raw) → IsReady state
     → KeepsCall state (called_at key state.rows state.time entry raw)
 unfolding called_at
 called_keeps key state entry raw ready =
-    let read : Upshot = read_upshot state.rows state.time (reading_of raw) (batch_after state entry) in
-    chosen (KeepsCall state) (not (is_key key raw.auth)) (Rejects (error_of InvalidApiKey))
-    (cond (not (is_platform raw.account)) (Rejects (error_of NoSuchAccount)) read) (answered InvalidApiKey)
-    (chosen (KeepsCall state) (not (is_platform raw.account)) (Rejects (error_of NoSuchAccount)) read (answered NoSuchAccount)
-    (read_keeps state entry (reading_of raw) ready (reading_answered raw) (reading_fit raw)))
+    let read : Upshot = account_upshot state.rows state.time entry raw (account_of state.rows raw.account) in
+    chosen (KeepsCall state) (not (is_key key raw.auth)) (Rejects (error_of InvalidApiKey)) read (answered InvalidApiKey)
+    (account_keeps state entry raw (account_of state.rows raw.account) ready)

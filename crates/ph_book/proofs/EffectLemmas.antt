@@ -192,7 +192,7 @@ pub ruled_done : (state : ViewState) (past : List Doing) (place : ℕ) (flight :
     → IsDone state most_rows (Settles may.intent flight.order may.processing.intent.capture_method ruling) may.intent
     (ruled_outcome state.rows state.time place flight.order.reference ruling)
 ruled_done state past place flight ruling stands may =
-    done_opened state 6 (Settles may.intent flight.order may.processing.intent.capture_method ruling) may.intent
+    done_opened state 14 (Settles may.intent flight.order may.processing.intent.capture_method ruling) may.intent
     (settle_outcome state.rows flight.order.reference ruling (batch_after state place)) stands.ready (omega arith)
     (settle_keeps state place may.intent flight.order ruling stands.ready may.attempt may.processing)
 

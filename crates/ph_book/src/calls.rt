@@ -5,10 +5,10 @@ ghost use Rattle.ph_rows.specs.Names.{owned_named};
 ghost use Rattle.ph_facts.specs.Outcomes.{Gives, Outcome};
 ghost use Rattle.ph_calls.specs.Reading.{reading_of};
 ghost use Rattle.ph_views.specs.Balances.{balance_doc};
-ghost use Rattle.ph_items.specs.Accounts.{platform};
+ghost use Rattle.std.specs.Option.{option_copied, option_or};
 ghost use Rattle.ph_intents.specs.Begun.{GivesBegun};
 ghost use Rattle.ph_intents.specs.Capture.{capture_outcome};
-ghost use Rattle.ph_book.specs.Calls.{Makes, Rejects, Shows, and_opened, authenticated, called_at, carried, clock_set, created, is_key, is_platform, read_upshot, retrieved};
+ghost use Rattle.ph_book.specs.Calls.{Makes, Rejects, Shows, and_opened, authenticated, called_at, carried, clock_set, created, is_key, payment_named, read_upshot, retrieved};
 ghost use Rattle.ph_book.specs.Called.{Comes, IsCalled, IsRejected};
 ghost use Rattle.ph_book.specs.History.{Effect, call_effect};
 ghost use Rattle.ph_book.specs.Replies.{Replies, Waits, doc_reply, error_reply, shown_reply};
@@ -16,13 +16,14 @@ ghost use Rattle.ph_rows.specs.Batches.{made_rows};
 
 use crate::replies::{doc_reply, error_reply, shown_reply};
 use crate::store::Store;
-use ph_base::{Bytes, Id, Kind, NoMemory, print_id};
+use ph_accounts::account_of;
+use ph_base::{Bytes, Kind, NoMemory};
 use ph_calls::{Authenticate, Call, CaptureIntent, CreateIntent, read_call};
 use ph_disputes::{close, evidence, open_due};
 use ph_errors::{ApiError, Refusal};
 use ph_http::{Raw, Reply};
 use ph_intents::{Begin, Begun, begin, cancel, capture, create, fail_authentication, update};
-use ph_items::{Order, PLATFORM};
+use ph_items::{Order, kind_number};
 use ph_json::Doc;
 use ph_kinds::Authentication;
 use ph_refunds::refund;
@@ -64,19 +65,24 @@ fn is_key(key: &Bytes, given: &Option<Bytes>) -> bool
     }
 }
 
-// Whether the account that a request names is the platform's own.
-fn is_platform(account: &Option<Bytes>) -> bool
-    ensures { result ≡ is_platform account.now }
+// The payment of an account whose printed id a text is, where charges are wanted.
+fn payment_named<'a>(store: &'a Store, account: u64, wanted: Kind, id: &[u8]) -> Option<&'a Row>
+    ensures { option_copied result ≡ payment_named store.now.rows account wanted id.now }
 {
-    match account {
-        Some(name) => {
-            let platform = print_id(Id {
-                kind: Kind::Account,
-                number: PLATFORM,
-            });
-            name.as_slice() == platform.as_slice()
-        }
-        None => true,
+    if kind_number(wanted) == kind_number(Kind::Charge) {
+        owned_named(store, account, Kind::Payment, id)
+    } else {
+        None
+    }
+}
+
+// The object of a kind and an account whose printed id a text is; a payment is a charge too.
+fn shown_named<'a>(store: &'a Store, account: u64, wanted: Kind, id: &[u8]) -> Option<&'a Row>
+    ensures { option_copied result ≡ option_or (owned_named store.now.rows account wanted id.now) (payment_named store.now.rows account wanted id.now) }
+{
+    match owned_named(store, account, wanted, id) {
+        Some(row) => Some(row),
+        None => payment_named(store, account, wanted, id),
     }
 }
 
@@ -84,13 +90,14 @@ fn is_platform(account: &Option<Bytes>) -> bool
 fn retrieve(
     alloc: Global,
     store: &Store,
-    kind: Kind,
+    account: u64,
+    wanted: Kind,
     id: &[u8],
     batch: &Batch,
 ) -> Result<u64, Refusal>
-    ensures { Gives (retrieved store.now.rows kind id.now batch.now) batch.now result batch.now }
+    ensures { Gives (retrieved store.now.rows account wanted id.now batch.now) batch.now result batch.now }
 {
-    match owned_named(store, PLATFORM, kind, id) {
+    match shown_named(store, account, wanted, id) {
         Some(row) => Ok(row.object),
         None => Err(Refusal::of(ApiError::no_such_object(alloc, b"id"))),
     }
@@ -100,21 +107,22 @@ fn retrieve(
 fn make(
     alloc: Global,
     store: &Store,
+    account: u64,
     call: &CreateIntent,
     batch: &mut Batch,
 ) -> Result<Carried, Refusal>
-    ensures { Comes (Makes (created store.now.rows call.now batch.old)) result batch.new }
+    ensures { Comes (Makes (created store.now.rows account call.now batch.old)) result batch.new }
 {
     if call.confirm {
         begun(begin(
             alloc,
             store,
-            PLATFORM,
+            account,
             &Begin::Create(call),
             batch,
         ))
     } else {
-        added(create(alloc, store, PLATFORM, call, batch))
+        added(create(alloc, store, account, call, batch))
     }
 }
 
@@ -122,12 +130,13 @@ fn make(
 fn take(
     alloc: Global,
     store: &Store,
+    account: u64,
     call: &CaptureIntent,
     batch: &mut Batch,
 ) -> Result<u64, Refusal>
-    ensures { Gives (and_opened store.now.rows (capture_outcome store.now.rows platform call.now batch.old)) batch.old result batch.new }
+    ensures { Gives (and_opened store.now.rows (capture_outcome store.now.rows account call.now batch.old)) batch.old result batch.new }
 {
-    match capture(alloc, store, PLATFORM, call, batch) {
+    match capture(alloc, store, account, call, batch) {
         Ok(object) => match open_due(alloc, store, object, batch) {
             Ok(()) => Ok(object),
             Err(NoMemory) => Err(Refusal::NoMemory),
@@ -140,28 +149,29 @@ fn take(
 fn authenticate(
     alloc: Global,
     store: &Store,
+    account: u64,
     call: &Authenticate,
     batch: &mut Batch,
 ) -> Result<Carried, Refusal>
-    ensures { Comes (Makes (authenticated store.now.rows call.now batch.old call.now.outcome)) result batch.new }
+    ensures { Comes (Makes (authenticated store.now.rows account call.now batch.old call.now.outcome)) result batch.new }
 {
     match call.outcome {
         Authentication::Succeeded => begun(begin(
             alloc,
             store,
-            PLATFORM,
+            account,
             &Begin::Authenticate(call),
             batch,
         )),
-        Authentication::Failed => added(fail_authentication(alloc, store, PLATFORM, call, batch)),
+        Authentication::Failed => added(fail_authentication(alloc, store, account, call, batch)),
     }
 }
 
-// The balance of the platform.
-fn balance(alloc: Global, store: &Store) -> Result<Carried, Refusal>
-    ensures { (batch : BatchState) → Comes (Shows (balance_doc platform store.now.time store.now.rows)) result batch }
+// The balance of an account.
+fn balance(alloc: Global, store: &Store, account: u64) -> Result<Carried, Refusal>
+    ensures { (batch : BatchState) → Comes (Shows (balance_doc account store.now.time store.now.rows)) result batch }
 {
-    match balance_doc(alloc, store, PLATFORM) {
+    match balance_doc(alloc, store, account) {
         Ok(doc) => Ok(Carried::Shown(doc)),
         Err(NoMemory) => Err(Refusal::NoMemory),
     }
@@ -208,41 +218,51 @@ fn rejected(refusal: Refusal) -> Result<Carried, Refusal>
     }
 }
 
-// Carries a call out: one arm for each row of the table of calls.
-fn carry(alloc: Global, store: &Store, call: &Call, batch: &mut Batch) -> Result<Carried, Refusal>
-    ensures { Comes (carried store.now.rows store.now.time call.now batch.old) result batch.new }
+// Carries a call of an account out: one arm for each row of the table of calls.
+fn carry(
+    alloc: Global,
+    store: &Store,
+    account: u64,
+    call: &Call,
+    batch: &mut Batch,
+) -> Result<Carried, Refusal>
+    ensures { Comes (carried store.now.rows account store.now.time call.now batch.old) result batch.new }
 {
     match call {
-        Call::CreateIntent(call) => make(alloc, store, call, batch),
-        Call::UpdateIntent(call) => added(update(alloc, store, PLATFORM, call, batch)),
+        Call::CreateIntent(call) => make(alloc, store, account, call, batch),
+        Call::UpdateIntent(call) => added(update(alloc, store, account, call, batch)),
         Call::ConfirmIntent(call) => {
-            begun(begin(alloc, store, PLATFORM, &Begin::Confirm(call), batch))
+            begun(begin(alloc, store, account, &Begin::Confirm(call), batch))
         }
-        Call::CaptureIntent(call) => added(take(alloc, store, call, batch)),
-        Call::CancelIntent(call) => added(cancel(alloc, store, PLATFORM, call, batch)),
-        Call::CreateRefund(call) => added(refund(alloc, store, PLATFORM, call, batch)),
-        Call::SendEvidence(call) => added(evidence(alloc, store, PLATFORM, call, batch)),
-        Call::CloseDispute(call) => added(close(alloc, store, PLATFORM, call, batch)),
+        Call::CaptureIntent(call) => added(take(alloc, store, account, call, batch)),
+        Call::CancelIntent(call) => added(cancel(alloc, store, account, call, batch)),
+        Call::CreateRefund(call) => added(refund(alloc, store, account, call, batch)),
+        Call::SendEvidence(call) => added(evidence(alloc, store, account, call, batch)),
+        Call::CloseDispute(call) => added(close(alloc, store, account, call, batch)),
+        Call::CreateAccount(call) => {
+            added(ph_accounts::create(alloc, store, account, call, batch))
+        }
         Call::Retrieve(call) => {
-            added(retrieve(alloc, store, call.kind, call.id.as_slice(), batch))
+            added(retrieve(alloc, store, account, call.kind, call.id.as_slice(), batch))
         }
-        Call::GetBalance(_) => balance(alloc, store),
+        Call::GetBalance(_) => balance(alloc, store, account),
         Call::SetClock(call) => set_clock(alloc, store.time(), call.now),
-        Call::Authenticate(call) => authenticate(alloc, store, call, batch),
+        Call::Authenticate(call) => authenticate(alloc, store, account, call, batch),
     }
 }
 
-// Carries out the call that a request is.
+// Carries out the call that a request of an account is.
 fn read_and_carry(
     alloc: Global,
     store: &Store,
+    account: u64,
     raw: &Raw,
     batch: &mut Batch,
 ) -> Result<Carried, Refusal>
-    ensures { Comes (read_upshot store.now.rows store.now.time (reading_of raw.now) batch.old) result batch.new }
+    ensures { Comes (read_upshot store.now.rows account store.now.time (reading_of account raw.now) batch.old) result batch.new }
 {
-    match read_call(alloc, raw) {
-        Ok(request) => carry(alloc, store, &request.call, batch),
+    match read_call(alloc, account, raw) {
+        Ok(request) => carry(alloc, store, account, &request.call, batch),
         Err(refusal) => rejected(refusal),
     }
 }
@@ -262,10 +282,10 @@ fn upshot(
     if !is_key(key, &raw.auth) {
         return rejected(Refusal::of(ApiError::invalid_api_key(alloc)));
     }
-    if !is_platform(&raw.account) {
-        return rejected(Refusal::of(ApiError::no_such_account(alloc)));
+    match account_of(store, raw.account.as_ref()) {
+        Some(account) => read_and_carry(alloc, store, account, raw, batch),
+        None => rejected(Refusal::of(ApiError::no_such_account(alloc))),
     }
-    read_and_carry(alloc, store, raw, batch)
 }
 
 // An accepted call, which shows an object.
