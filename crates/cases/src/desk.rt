@@ -8,7 +8,7 @@ ghost use Rattle.ph_book.specs.Tickets.{Holds};
 
 use ph_attempts::Ticket;
 use ph_base::{NoMemory, Ruling, Why};
-use ph_book::{Act, Answer, Book, Refused, Setup};
+use ph_book::{Act, Answer, Book, Refused, Setup, runs_follow};
 use ph_http::{Raw, Reply};
 use std::alloc::Global;
 use std::marker::Model;
@@ -67,6 +67,7 @@ impl Desk {
     /// Enters a request. Where it waits, its ticket is in hand.
     pub fn call(&mut self, raw: Raw) -> Result<Said, NoMemory> {
         self.tickets.reserve(1)?;
+        runs_follow(self.book.setup(), self.book.history());
         match self.book.apply(0, Act::Call(raw)) {
             Ok(Answer::Reply(reply)) => Ok(Said::Reply(reply)),
             Ok(Answer::Wait(ticket)) => {
@@ -86,6 +87,7 @@ impl Desk {
     pub fn finish(&mut self, at: usize, ruling: Ruling) -> Result<Said, NoMemory>
         requires within { at < length self.old.tickets }
     {
+        runs_follow(self.book.setup(), self.book.history());
         let ticket = self.tickets.remove(at);
         match finish(&mut self.book, ticket, ruling) {
             Ok(reply) => Ok(Said::Reply(reply)),
@@ -98,6 +100,7 @@ impl Desk {
         requires within { at < length self.old.tickets }
         ensures left { length self.new.tickets < length self.old.tickets }
     {
+        runs_follow(self.book.setup(), self.book.history());
         let ticket = self.tickets.remove(at);
         Said::Reply(park(&mut self.book, ticket, why))
     }
@@ -106,6 +109,7 @@ impl Desk {
     pub fn tick(&mut self, moment: u64) -> Result<Said, NoMemory>
         requires clock { moment ≤ clock_limit }
     {
+        runs_follow(self.book.setup(), self.book.history());
         match self.book.apply(0, Act::Tick(moment)) {
             Ok(answer) => {
                 let Answer::Done = answer else { unreachable!() };

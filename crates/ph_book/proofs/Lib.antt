@@ -9,3 +9,4 @@ pub mod StoreLemmas
 pub mod MoneyLemmas
 pub mod ReplyLemmas
 pub mod CalledLemmas
+pub mod RunLemmas

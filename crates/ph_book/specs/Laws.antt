@@ -1,13 +1,19 @@
 -- What holds of the rows of every legal history.
-use Rattle.std.specs.Prelude.{◌≡◌, ℕ, pos, ◌+ℤ◌, ◌≤ℤ◌, List, Some, true}
-use Rattle.std.specs.List.{list_all}
+use Rattle.std.specs.Prelude.{◌≡◌, ◌≢◌, ℕ, ◌+◌, ◌≤◌, pos, ◌+ℤ◌, ◌≤ℤ◌, nat_le, not, List, [], ◌∷◌, ◌++◌, length, Option, Some, None, true}
+use Rattle.std.specs.List.{filter, list_all}
+use Rattle.ph_base.specs.declared.acquirer.Ruling.{Ruling}
+use Rattle.ph_base.specs.declared.acquirer.Why.{Why}
+use Rattle.ph_attempts.specs.Attempts.{is_same_run}
 use Rattle.ph_attempts.specs.declared.flights.Flight.{Flight}
 use Rattle.ph_doings.specs.Confirmations.{all_but_first, attempts_of_confirmation, begun_at}
 use Rattle.ph_doings.specs.Doings.{Doing}
 use Rattle.ph_doings.specs.Rows.{MayEnd}
-use Rattle.ph_doings.specs.Runs.{Flies, live_run}
+use Rattle.ph_doings.specs.Runs.{Flies, live_run, live_runs}
 use Rattle.ph_doings.specs.Standings.{is_challenged, standing_of}
 use Rattle.ph_money.specs.declared.currencies.Currency.{Currency}
+use Rattle.ph_http.specs.declared.message.Raw.{Raw}
+use Rattle.ph_http.specs.declared.message.Reply.{Reply}
+use Rattle.ph_items.specs.declared.orders.Order.{Order}
 use Rattle.ph_rows.specs.declared.rows.Row.{Row}
 use Rattle.ph_items.specs.declared.charges.Charge.{Charge}
 use Rattle.ph_items.specs.declared.charges.ChargeSort.TheVariants as charge_sort
@@ -21,6 +27,14 @@ use Rattle.ph_rows.specs.Rows.{latest_of, row_at}
 use Rattle.ph_facts.specs.Held.{charge_of}
 use Rattle.ph_facts.specs.Amounts.{captured_of, moves_in, moves_of, refunded_of}
 use Rattle.ph_views.specs.Values.{printed_id}
+use Rattle.ph_book.specs.declared.acts.Deed.{Deed}
+use Rattle.ph_book.specs.declared.acts.Deed.TheVariants as deed
+use Rattle.ph_book.specs.declared.acts.Entry.{Entry}
+use Rattle.ph_book.specs.declared.setup.Setup.{Setup}
+use Rattle.ph_book.specs.Entries.{call_entry, finish_entry, park_entry}
+use Rattle.ph_book.specs.History.{doings_of, said_to}
+use Rattle.ph_book.specs.Replies.{Replies, Waits}
+use Rattle.ph_book.specs.Tickets.{Holds}
 
 -- the printed id of a row's object
 abbrev pub id_of : Row → List ℕ
@@ -81,3 +95,39 @@ WereChallenged past = (confirmation : ℕ) → list_all (λ reference. is_challe
 -- the rows have the attempt of each live run, live under its order, and its payment intent, which is processing
 abbrev pub RunsAreShown : List Doing → List Row → Type 0
 RunsAreShown past rows = (flight : Flight) → live_run past flight.run ≡ Flies flight → MayEnd past rows flight
+
+-- the live runs of a history, in the order in which they began
+abbrev pub runs_of : Setup → List Entry → List Flight
+runs_of setup history = live_runs (doings_of setup history)
+
+-- runs but this one
+abbrev pub all_but_run : Flight → List Flight → List Flight
+all_but_run flight flights = filter (λ other. not (is_same_run flight other)) flights
+
+-- the number of the run that a deed is to end
+abbrev pub ended_in : Deed → Option ℕ
+ended_in (deed.Call raw) = None
+ended_in (deed.Finish run ruling) = Some run
+ended_in (deed.Park run why) = Some run
+ended_in (deed.Tick moment) = None
+
+-- the live runs after one entry more
+pub record RunsFollow (setup : Setup) (history : List Entry) : Type 0 where
+  -- a call that is answered leaves them as they are
+  pub answered : (caller : ℕ) (raw : Raw) (reply : Reply) → said_to setup history (call_entry caller raw) ≡ Replies reply
+      → runs_of setup (history ++ call_entry caller raw ∷ []) ≡ runs_of setup history
+  -- the run of a call that waits stands behind them
+  pub begun : (caller : ℕ) (raw : Raw) (order : Order) → said_to setup history (call_entry caller raw) ≡ Waits order
+      → runs_of setup (history ++ call_entry caller raw ∷ [])
+      ≡ runs_of setup history ++ record { caller = caller; run = length history + 1; order = order } ∷ []
+  -- a ruling on a caller's own run, and the park of it, take it out
+  pub settled : (caller : ℕ) (ticket : Flight) (ruling : Ruling) → Holds setup history caller ticket
+      → runs_of setup (history ++ finish_entry caller ticket ruling ∷ []) ≡ all_but_run ticket (runs_of setup history)
+  pub parked : (caller : ℕ) (ticket : Flight) (why : Why) → Holds setup history caller ticket
+      → runs_of setup (history ++ park_entry caller ticket why ∷ []) ≡ all_but_run ticket (runs_of setup history)
+  -- each has the number of an entry that stands
+  pub numbered : list_all (λ flight. nat_le flight.run (length history)) (runs_of setup history) ≡ true
+  pub places : (caller : ℕ) (ticket : Flight) → Holds setup history caller ticket → ticket.run ≤ length history
+  -- the run of a caller's ticket stays live until the caller's own end of it, whatever is entered
+  pub stays : (entry : Entry) (caller : ℕ) (ticket : Flight) → Holds setup history caller ticket
+      → (entry.caller ≡ caller → ended_in entry.deed ≢ Some ticket.run) → Holds setup (history ++ entry ∷ []) caller ticket

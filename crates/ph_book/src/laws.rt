@@ -2,7 +2,7 @@
 ghost use Rattle.ph_doings.specs.Laws.{HasOneUnsettled};
 ghost use Rattle.ph_book.specs.History.{doings_of, rows_of};
 ghost use Rattle.ph_book.specs.Legal.{IsLegal};
-ghost use Rattle.ph_book.specs.Laws.{AmountsAreSums, BalancesAreSums, DisputesMoveOnce, HaveDifferentIds, HaveDifferentReferences, RefundsFit, RunsAreShown, WereChallenged};
+ghost use Rattle.ph_book.specs.Laws.{AmountsAreSums, BalancesAreSums, DisputesMoveOnce, HaveDifferentIds, HaveDifferentReferences, RefundsFit, RunsAreShown, RunsFollow, WereChallenged};
 
 use crate::acts::Entry;
 use crate::book::Book;
@@ -84,6 +84,15 @@ pub fn all_but_the_last_were_challenged(setup: &Setup, _history: &[Entry])
 pub fn live_runs_are_shown(setup: &Setup, _history: &[Entry])
     requires { IsLegal setup.now _history.now }
     ensures { RunsAreShown (doings_of setup.now _history.now) (rows_of setup.now _history.now) }
+{
+    few_entries(setup.entries);
+}
+
+/// A call that is answered leaves the live runs as they are, the run of a call that waits stands behind them, and a
+/// ruling on a run or a park of it takes it out.
+pub fn runs_follow(setup: &Setup, _history: &[Entry])
+    requires { IsLegal setup.now _history.now }
+    ensures { RunsFollow setup.now _history.now }
 {
     few_entries(setup.entries);
 }

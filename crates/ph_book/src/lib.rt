@@ -19,6 +19,7 @@ pub use laws::{
     all_but_the_last_were_challenged, amounts_are_sums, balances_are_sums,
     disputes_move_once, history_is_legal, ids_differ, live_runs_are_shown,
     processing_has_one_attempt, references_differ, refunds_fit,
+    runs_follow,
 };
 pub use ph_lock::Refused;
 pub use setup::Setup;

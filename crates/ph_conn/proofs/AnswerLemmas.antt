@@ -16,14 +16,15 @@ use Rattle.ph_book.specs.declared.acts.Answer.TheVariants as answer
 use Rattle.ph_book.specs.Answers.{Says}
 use Rattle.ph_book.specs.Entries.{call_entry}
 use Rattle.ph_book.specs.History.{replies_of}
+use Rattle.ph_book.specs.Laws.{all_but_run}
 use Rattle.ph_book.specs.Replies.{Said, Replies, Waits, Silence, park_reply}
 use Rattle.ph_book.specs.State.{BookState, entered}
 use Rattle.ph_conn.specs.Answers.{Replied, Waiting, Ended, Settles, Entered, Answers}
-use Rattle.ph_conn.specs.Desks.{Desk, RoseBy}
+use Rattle.ph_conn.specs.Desks.{Desk, RoseBy, live_in}
 use Rattle.ph_conn.specs.Parts.{Ending, Settled, GivenUp, EndsBy, Follows, end_entry, failures_in, refusals_in}
 use Rattle.ph_conn.specs.declared.answers.Outcome.{Outcome}
 use Rattle.ph_conn.specs.declared.answers.Outcome.TheVariants as outcome
-use Rattle.ph_conn.proofs.LiveLemmas.{live-replied, live-ended}
+use Rattle.ph_conn.proofs.LiveLemmas.{begun_ended}
 use Rattle.ph_conn.proofs.PartLemmas.{and_asks-none, counted-none}
 
 -- ---- what is said, by the answer
@@ -57,7 +58,7 @@ is_replied old new link counts raw reply r = (
     answered = r.answered;
     asked = sym (and_asks-none link.asked);
     counted = counted-none old new link counts;
-    nothing_left_live = live-replied old new raw reply r.entered_once r.said;
+    nothing_left_live = r.live;
   },
   refl,
 )
@@ -101,7 +102,8 @@ is_driven old middle new link link' counts counts' raw ticket end ending reply w
       answered = e.answered ∙ ap (λ rs. rs ++ reply ∷ []) (w.answered ∙ append-nil (replies_of old.setup old.history));
       asked = d.asked;
       counted = record { faults = rose.0; refusals = rose.1; grants = d.granted; starts = starts };
-      nothing_left_live = live-ended old middle new raw ticket ending w.entered_once w.said w.run w.own e.entered_once;
+      nothing_left_live = e.live ∙ ap (all_but_run ticket) w.live
+          ∙ begun_ended ticket (live_in old) (length old.history) w.numbered run;
     }
 
 -- whatever its end

@@ -1,5 +1,5 @@
 -- Parts of a session, one more behind others.
-use Rattle.std.proofs.Common.{◌≡◌, ◌≢◌, ℕ, zero, suc, ◌+◌, ◌∷◌, ◌++◌, false, List, [], length, Option, Some, None, refl, sym, ap, ◌∙◌, subst, append_assoc, arith}
+use Rattle.std.proofs.Common.{◌≡◌, ◌≢◌, ℕ, zero, suc, ◌+◌, ◌∷◌, ◌++◌, true, false, List, [], length, Option, Some, None, refl, sym, ap, ◌∙◌, subst, append_assoc, arith}
 use Rattle.std.proofs.lemmas.List.{append-nil, length-append, map-append}
 use Rattle.std.proofs.lemmas.Grind.{flat_map-append}
 use Rattle.ph_base.specs.Counts.{Rose}
@@ -12,6 +12,7 @@ use Rattle.ph_http.specs.declared.message.Raw.{Raw}
 use Rattle.ph_http.specs.declared.message.Reply.{Reply}
 use Rattle.ph_book.specs.declared.acts.Entry.{Entry}
 use Rattle.ph_book.specs.declared.setup.Setup.{Setup}
+use Rattle.ph_book.specs.Answers.{is_ruled}
 use Rattle.ph_book.specs.Entries.{call_entry}
 use Rattle.ph_book.specs.History.{said_to}
 use Rattle.ph_book.specs.Replies.{park_reply}
@@ -145,8 +146,12 @@ no_memory_status : (park_reply why.NoMemory).status ≡ 503
 unfolding error_of
 no_memory_status = refl
 
+-- a ruling is answered by the payment intent or the decline
+ruled-answered : (reply : Reply) → is_ruled reply.status ≡ true → reply.status ≢ 500
+ruled-answered reply is other = let none : false ≡ true = sym (ap is_ruled other) ∙ is in absurd (cc)
+
 ending-answered : (ending : Ending) (reply : Reply) → IsReplyOf ending reply → failures_in ending ≡ 0 → refusals_in ending ≡ 0 → reply.status ≢ 500
-ending-answered (Settled ruling) reply is failed refused = is
+ending-answered (Settled ruling) reply is failed refused = ruled-answered reply is
 ending-answered (GivenUp why.Pending) reply is failed refused = absurd (omega (arith, refused))
 ending-answered (GivenUp why.Failed) reply is failed refused = absurd (omega (arith, failed))
 ending-answered (GivenUp why.NoMemory) reply is failed refused =

@@ -1,5 +1,6 @@
 -- What becomes of a request.
-use Rattle.std.specs.Prelude.{◌≡◌, ◌≢◌, ◌+◌, true, false, [], ◌∷◌, ◌++◌, length, Option, Result, Ok, Err, IsTrue}
+use Rattle.std.specs.Prelude.{◌≡◌, ◌≢◌, ◌+◌, nat_le, true, false, [], ◌∷◌, ◌++◌, length, Option, Result, Ok, Err, IsTrue}
+use Rattle.std.specs.List.{list_all}
 use Rattle.ph_base.specs.declared.acquirer.Ruling.{Ruling}
 use Rattle.ph_base.specs.declared.acquirer.Why.TheVariants as why
 use Rattle.ph_attempts.specs.declared.flights.Flight.{Flight}
@@ -11,6 +12,7 @@ use Rattle.ph_http.specs.Replies.{is_status}
 use Rattle.ph_book.specs.declared.acts.Deed.TheVariants as deed
 use Rattle.ph_book.specs.Entries.{call_entry}
 use Rattle.ph_book.specs.History.{replies_of, said_to}
+use Rattle.ph_book.specs.Laws.{all_but_run}
 use Rattle.ph_book.specs.Legal.{is_full, IsLegal}
 use Rattle.ph_book.specs.Replies.{Replies, Waits, park_reply}
 use Rattle.ph_book.specs.State.{BookState, entered}
@@ -36,14 +38,17 @@ pub record Replied (old new : BookState) (raw : Raw) (reply : Reply) : Type 0 wh
   pub no_park : reply.status ≢ 500
   pub status : IsTrue (is_status reply.status)
   pub answered : replies_of new.setup new.history ≡ replies_of old.setup old.history ++ reply ∷ []
+  pub live : live_in new ≡ live_in old
 
--- the call of a request was entered, and waits: the ticket is that of its run
+-- the call of a request was entered, and waits: the ticket is that of its run, which stands behind the live ones
 pub record Waiting (old new : BookState) (raw : Raw) (ticket : Flight) : Type 0 where
   pub entered_once : new ≡ entered old (call_entry 0 raw)
   pub said : said_to old.setup old.history (call_entry 0 raw) ≡ Waits ticket.order
   pub run : ticket ≡ record { caller = 0; run = length old.history + 1; order = ticket.order }
   pub own : Holds new.setup new.history 0 ticket
   pub answered : replies_of new.setup new.history ≡ replies_of old.setup old.history ++ []
+  pub live : live_in new ≡ live_in old ++ ticket ∷ []
+  pub numbered : list_all (λ flight. nat_le flight.run (length old.history)) (live_in old) ≡ true
 
 -- the call was entered, or the book stays as it was
 abbrev pub Calls : BookState → BookState → Raw → Called → Type 0
@@ -54,13 +59,14 @@ Calls old new raw called.NoMemory = new ≡ old
 
 -- ---- the ends of runs
 
--- the end of a ticket's run was entered, and this is the reply to it
+-- the end of a ticket's run was entered, and this is the reply to it; the run is live no more
 pub record Ended (old new : BookState) (ticket : Flight) (ending : Ending) (reply : Reply) : Type 0 where
   pub entered_once : new ≡ entered old (end_entry ticket.run ending)
   pub one_history : IsLegal new.setup new.history
   pub replied : IsReplyOf ending reply
   pub status : IsTrue (is_status reply.status)
   pub answered : replies_of new.setup new.history ≡ replies_of old.setup old.history ++ reply ∷ []
+  pub live : live_in new ≡ all_but_run ticket (live_in old)
 
 -- the ruling was entered, or the ticket comes back and the book stays as it was
 abbrev pub Finishes : BookState → BookState → Flight → Ruling → Result Reply Flight → Type 0

@@ -3,8 +3,7 @@ use Rattle.std.specs.Prelude.{◌≡◌, ℕ, ◌+◌, ◌-◌, ◌^◌, ◌≤�
 use Rattle.ph_attempts.specs.declared.flights.Flight.{Flight}
 use Rattle.ph_bank.specs.Links.{Link}
 use Rattle.ph_bank.specs.Patiences.{Granted, counted_on}
-use Rattle.ph_book.specs.History.{attempts_of}
-use Rattle.ph_book.specs.Runs.{live_of}
+use Rattle.ph_book.specs.Laws.{runs_of}
 use Rattle.ph_book.specs.State.{BookState}
 
 -- a book, a link to an acquirer, and how often a patience was started, granted and refused
@@ -15,7 +14,7 @@ pub record Desk : Type 0 where
 
 -- the live runs of a book
 abbrev pub live_in : BookState → List Flight
-live_in book = live_of (attempts_of book.setup book.history)
+live_in book = runs_of book.setup book.history
 
 -- a count rose by so many at least, or stands at the end of its type, where it stays
 abbrev pub RoseBy : ℕ → ℕ → ℕ → Type 0

@@ -10,6 +10,7 @@ use Rattle.ph_http.specs.declared.message.Reply.{Reply}
 use Rattle.ph_book.specs.declared.acts.Deed.TheVariants as deed
 use Rattle.ph_book.specs.declared.acts.Entry.{Entry}
 use Rattle.ph_book.specs.declared.setup.Setup.{Setup}
+use Rattle.ph_book.specs.Answers.{is_ruled}
 use Rattle.ph_book.specs.Entries.{call_entry}
 use Rattle.ph_book.specs.History.{said_to}
 use Rattle.ph_book.specs.Replies.{Said, Replies, Waits, Silence, park_reply}
@@ -95,9 +96,9 @@ AllFollow setup history (part ∷ parts) =
 
 -- ---- replies
 
--- the reply to an ending: to a run that was given up, that of the reason; none but these has the status 500
+-- the reply to an ending: to a ruling, the payment intent or the decline; to a run that was given up, that of the reason, and none but these has the status 500
 abbrev pub IsReplyOf : Ending → Reply → Type 0
-IsReplyOf (Settled ruling) reply = reply.status ≢ 500
+IsReplyOf (Settled ruling) reply = is_ruled reply.status ≡ true
 IsReplyOf (GivenUp reason) reply = reply ≡ park_reply reason
 
 -- the reply to a request: where its call waited, that to the end of its run

@@ -6,7 +6,7 @@ ghost use Rattle.ph_conn.specs.Parts.{GivenUp};
 use ph_attempts::Ticket;
 use ph_bank::{Acquirer, Driven, Patience, drive};
 use ph_base::{Ruling, Why};
-use ph_book::{Act, Answer, Book, Refused};
+use ph_book::{Act, Answer, Book, Refused, runs_follow};
 use ph_http::{Raw, Reply};
 
 /// What became of a request.
@@ -61,6 +61,7 @@ pub fn answer<A: Acquirer, P: Patience>(
 fn call(book: &mut Book, raw: Raw) -> Called
     ensures { Calls book.old book.new raw result }
 {
+    runs_follow(book.setup(), book.history());
     match book.apply(0, Act::Call(raw)) {
         Ok(Answer::Reply(reply)) => {
             let _ = book.history();
@@ -101,6 +102,7 @@ fn finish(book: &mut Book, ticket: Ticket, ruling: Ruling) -> Result<Reply, Tick
     requires own { Holds book.old.setup book.old.history 0 ticket }
     ensures { Finishes book.old book.new ticket ruling result }
 {
+    runs_follow(book.setup(), book.history());
     match book.apply(0, Act::Finish(ticket, ruling)) {
         Ok(answer) => {
             let Answer::Reply(reply) = answer else {
@@ -123,6 +125,7 @@ fn park(book: &mut Book, ticket: Ticket, why: Why) -> Reply
     requires own { Holds book.old.setup book.old.history 0 ticket }
     ensures { Ended book.old book.new ticket (GivenUp why) result }
 {
+    runs_follow(book.setup(), book.history());
     let entered = book.apply(0, Act::Park(ticket, why));
     let Ok(answer) = entered else { unreachable!() };
     let Answer::Reply(reply) = answer else {

@@ -14,6 +14,6 @@ invariant_of-self c =
     let taken = taken_of c.args.self.now c.self.inside.book c.self.inside.tickets.items c.remove-ticket.new.self.items c.args.at c.remove-ticket.result
     c.self.view_is c.self.invariant c.requires.within c.remove-ticket.ensures.value c.remove-ticket.ensures.items in
     elim c.match-finish.branch [
-      | in-Ok w ↦ held_finish c.self.inside.book c.finish.new.book c.remove-ticket.result c.args.ruling c.remove-ticket.new.self.items taken.holds taken.apart taken.held w.in-Ok.ensures.entered
-      | in-Err w ↦ held_park c.self.inside.book c.finish.new.book c.remove-ticket.result why_given.NoMemory c.remove-ticket.new.self.items taken.holds taken.apart taken.held w.in-Err.ensures.given_up
+      | in-Ok w ↦ held_finish c.self.inside.book c.finish.new.book c.remove-ticket.result c.args.ruling c.remove-ticket.new.self.items c.runs_follow.ensures taken.apart taken.held w.in-Ok.ensures.entered
+      | in-Err w ↦ held_park c.self.inside.book c.finish.new.book c.remove-ticket.result why_given.NoMemory c.remove-ticket.new.self.items c.runs_follow.ensures taken.apart taken.held w.in-Err.ensures.given_up
     ]
