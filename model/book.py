@@ -1,5 +1,6 @@
 """The book: entries one after another, each answered by the entries before it, and the rows that they add."""
 
+import connect
 import disputes
 import intents
 import parameters
@@ -11,9 +12,6 @@ from errors import Refusal, Reply
 MOST_ENTRIES = 200000
 MOST_WEIGHT = 536870912
 
-PLATFORM_ID = b"acct_0000000000000001"
-
-
 # call: what carries it out. Each answers the document of the reply, or that it waits for the acquirer, or refuses
 # before it adds a row.
 CALLS = {
@@ -24,12 +22,16 @@ CALLS = {
     "capture_intent": intents.capture,
     "cancel_intent": intents.cancel,
     "authenticate": intents.authenticate,
-    "get_charge": views.retrieve("charge"),
+    "get_charge": views.retrieve("charge", "payment"),
     "create_refund": refunds.create,
     "get_refund": views.retrieve("refund"),
     "get_dispute": views.retrieve("dispute"),
     "send_evidence": disputes.send_evidence,
     "close_dispute": disputes.close,
+    "create_account": connect.create_account,
+    "get_account": views.retrieve("account"),
+    "get_transfer": views.retrieve("transfer"),
+    "get_fee": views.retrieve("fee"),
     "get_balance": views.balance,
     "get_txn": views.retrieve("txn"),
 }
@@ -84,12 +86,11 @@ class Book:
         """The refusals of a request, in their order, and what it comes to."""
         if request.auth != self.key:
             raise Refusal("wrong_key")
-        if request.account not in (None, PLATFORM_ID):
-            raise Refusal("no_account")
-        name, identity, given = parameters.read_call(request)
+        account = connect.account_named(self.rows, request.account)
+        name, identity, given = parameters.read_call(request, account)
         if name == "set_clock":
             return self.set_clock(given["now"])
-        batch = self.batch(book_rows.PLATFORM)
+        batch = self.batch(account)
         answer = CALLS[name](batch, identity, given)
         batch.close()
         return answer

@@ -1,6 +1,6 @@
 -- The rows of a split: how they stand in a batch, and what the kinds of splits have in common.
 use Rattle.std.specs.Prelude.{slice_get, ◌==◌}
-use Rattle.std.proofs.Common.{◌≡◌, ℕ, ◌+◌, ◌≤◌, ◌<◌, Bool, true, false, cond, List, [], ◌∷◌, ◌++◌, Option, None, Some, length, refl, sym, ap, ◌∙◌, arith}
+use Rattle.std.proofs.Common.{◌≡◌, ℕ, ◌+◌, ◌≤◌, ◌<◌, Bool, true, false, cond, List, [], ◌∷◌, ◌++◌, Option, None, Some, length, refl, sym, ap, ◌∙◌, subst, arith}
 use Rattle.std.proofs.lemmas.List.{append-nil, append_assoc, length-append}
 use Rattle.ph_items.specs.declared.charges.Charge.{Charge}
 use Rattle.ph_items.specs.declared.items.Item.{Item}
@@ -16,7 +16,8 @@ use Rattle.ph_rows.proofs.RowLemmas.{slice_get-behind}
 use Rattle.ph_facts.specs.Held.{AreHeld}
 use Rattle.ph_facts.specs.Order.{IsInOrder}
 use Rattle.ph_facts.specs.Shown.{shown_in}
-use Rattle.ph_facts.proofs.HeldLemmas.{AllLeave, Leaves, later_is_loose}
+use Rattle.ph_facts.proofs.HeldLemmas.{AllLeave, IsApart, later_is_loose}
+use Rattle.ph_facts.proofs.DoneLemmas.{shown_before}
 use Rattle.ph_charges.specs.Charges.{captured_charge, next_capture, with_captured}
 use Rattle.ph_charges.specs.Splits.{SplitRow, destination_split, direct_split, fee_rows, fee_taken, plain_split, split_fee, split_rows, split_to, split_txn, with_split}
 use Rattle.ph_charges.specs.Told.{split_events}
@@ -206,3 +207,27 @@ captured_tells account object charge amount batch =
     events_both batch.rows (row ∷ behind) in
     let few : length (split_events behind) ≤ 2 = split_tells (last_place batch + 2) account object charge amount batch.at (last_place batch + 2) batch.at in
     omega arith
+
+-- it shows nothing more of payment intents and attempts
+pub captured_shows : (account object : ℕ) (charge : Charge) (amount : ℕ) (batch : BatchState)
+    → shown_in (with_captured account object charge amount batch).rows ≡ shown_in batch.rows
+captured_shows account object charge amount batch =
+    ap shown_in (captured_is account object charge amount batch)
+    ∙ shown_before batch.rows (captured_row account object charge amount batch ∷ split_behind account object charge amount batch)
+    (split_shows (last_place batch + 2) account object charge amount batch.at (last_place batch + 2) batch.at)
+
+-- rows that leave what is held, and others
+pub leave_both : (rows : List Row) (other : ℕ) (front behind : List Row) → AllLeave rows other front → AllLeave rows other behind
+    → AllLeave rows other (front ++ behind)
+leave_both rows other [] behind first second = second
+leave_both rows other (row ∷ front) behind first second = (first.0, leave_both rows other front behind first.1 second)
+
+-- it leaves what is held for another payment intent, where the charge does
+pub captured_leaves : (state : ViewState) (other account object : ℕ) (charge : Charge) (amount : ℕ) (batch : BatchState) → IsInOrder state
+    → AreHeld state.rows → length state.rows ≤ last_place batch → AllLeave state.rows other batch.rows → IsApart state.rows other object
+    → AllLeave state.rows other (with_captured account object charge amount batch).rows
+captured_leaves state other account object charge amount batch order held later front apart =
+    subst (AllLeave state.rows other) (sym (captured_is account object charge amount batch))
+    (leave_both state.rows other batch.rows
+    (captured_row account object charge amount batch ∷ split_behind account object charge amount batch) front
+    (apart, split_leaves state other (last_place batch + 2) account object charge amount batch.at (last_place batch + 2) batch.at order held (omega arith)))
