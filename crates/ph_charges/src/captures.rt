@@ -1,5 +1,6 @@
 //! What a capture adds beside the payment intent's own version.
 ghost use Rattle.std.specs.Prelude.{◌≡◌, IfOk, OnOk};
+ghost use Rattle.std.specs.Option.{option_or};
 ghost use Rattle.ph_charges.specs.Captures.{capture_of};
 ghost use Rattle.ph_charges.specs.Charges.{with_fee};
 
@@ -10,14 +11,22 @@ use ph_money::Amount;
 use ph_rows::{Batch, View, version_with};
 use std::alloc::Global;
 
+/// The application fee that is named, or else the one that is kept.
+pub fn fee_or(named: Option<Amount>, kept: Option<Amount>) -> Option<Amount>
+    ensures { result ≡ option_or named kept }
+{
+    match named {
+        Some(_) => named,
+        None => kept,
+    }
+}
+
 // A charge of which the platform takes what a capture names, or else what it takes as it is.
 fn with_fee(alloc: Global, fee: Option<Amount>, charge: &Charge) -> Result<Charge, NoMemory>
     ensures { IfOk result (λ version. version ≡ with_fee fee charge.now) }
 {
     let mut version = charge.copy(alloc)?;
-    if fee.is_some() {
-        version.application_fee_amount = fee;
-    }
+    version.application_fee_amount = fee_or(fee, charge.application_fee_amount);
     Ok(version)
 }
 

@@ -10,6 +10,6 @@ mod splits;
 mod told;
 
 pub use approvals::{approve, decline};
-pub use captures::capture;
+pub use captures::{capture, fee_or};
 pub use laws::splits_are_whole;
 pub use told::tell_split;

@@ -10,6 +10,7 @@ use crate::statuses::{Step, next_status};
 use crate::versions::tell_all;
 use ph_base::{Kind, NoMemory};
 use ph_calls::CaptureIntent;
+use ph_charges::fee_or;
 use ph_errors::Refusal;
 use ph_items::{EventKind, Intent, IntentStatus};
 use ph_money::Amount;
@@ -50,9 +51,7 @@ fn received_with(
     ensures { IfOk result (λ received. received ≡ received_intent amount (with_fee fee intent.now) status) }
 {
     let mut received = received_intent(alloc, amount, intent, status)?;
-    if fee.is_some() {
-        received.application_fee_amount = fee;
-    }
+    received.application_fee_amount = fee_or(fee, intent.application_fee_amount);
     Ok(received)
 }
 

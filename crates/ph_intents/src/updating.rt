@@ -1,6 +1,5 @@
 //! The update.
 ghost use Rattle.std.specs.Prelude.{◌≡◌, IfOk};
-ghost use Rattle.std.specs.Option.{option_or};
 ghost use Rattle.ph_facts.specs.Outcomes.{Gives};
 ghost use Rattle.ph_intents.specs.Update.{step_by, step_of, update_of, update_outcome, update_with, updated_intent};
 
@@ -12,6 +11,7 @@ use crate::statuses::{Step, next_status};
 use crate::versions::add_version;
 use ph_base::{Kind, NoMemory};
 use ph_calls::UpdateIntent;
+use ph_charges::fee_or;
 use ph_errors::Refusal;
 use ph_items::{Intent, IntentStatus};
 use ph_money::Amount;
@@ -45,16 +45,6 @@ fn step_of(call: &UpdateIntent) -> Step
             || call.application_fee_amount.is_some()
             || call.transfer_group.is_some(),
     )
-}
-
-// The application fee that is named, or else the one that is kept.
-fn fee_or(named: Option<Amount>, kept: Option<Amount>) -> Option<Amount>
-    ensures { result ≡ option_or named kept }
-{
-    match named {
-        Some(_) => named,
-        None => kept,
-    }
 }
 
 // A payment intent after an update: what is named is set, and all else is as it was.
