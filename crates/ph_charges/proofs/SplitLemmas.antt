@@ -1,8 +1,10 @@
 -- The rows of a split: how they stand in a batch, and what the kinds of splits have in common.
 use Rattle.std.specs.Prelude.{slice_get, ◌==◌}
-use Rattle.std.proofs.Common.{◌≡◌, ℕ, ◌+◌, ◌≤◌, ◌<◌, Bool, true, false, cond, List, [], ◌∷◌, ◌++◌, Option, None, Some, length, refl, sym, ap, ◌∙◌, subst, arith}
+use Rattle.std.proofs.Common.{◌≡◌, ℕ, suc, ◌+◌, ◌≤◌, ◌<◌, Bool, true, false, cond, List, [], ◌∷◌, ◌++◌, Option, None, Some, length, refl, sym, ap, ◌∙◌, subst, arith}
 use Rattle.std.proofs.lemmas.List.{append-nil, append_assoc, length-append}
+use Rattle.ph_items.specs.declared.accounts.AccountType.TheVariants as account_type
 use Rattle.ph_items.specs.declared.charges.Charge.{Charge}
+use Rattle.ph_items.specs.declared.event_kinds.EventKind.TheVariants as event
 use Rattle.ph_items.specs.declared.items.Item.{Item}
 use Rattle.ph_items.specs.declared.items.Item.TheVariants as item
 use Rattle.ph_items.specs.declared.transactions.TxnSource.TheVariants as source
@@ -131,21 +133,23 @@ captured_has account object charge amount batch =
 
 -- ---- what every split has in common
 
+-- a row of it
+a_row : SplitRow
+a_row = record { account = platform; item = item.Account (record { sort = account_type.Standard; email = None; metadata = [] }) }
+
 -- it has at most seven rows
 pub rows_few : (place account object : ℕ) (charge : Charge) (amount now : ℕ)
     → length (split_rows place account object charge amount now) ≤ 7
 rows_few place account object charge amount now =
     by_kind (λ split. length split ≤ 7) place account object charge amount now (omega arith)
-    (by_fee (λ fees. length fees + 1 ≤ 7) (place + 1) account object charge (fee_taken charge amount) now (omega arith) (omega arith))
-    (λ destination. by_fee (λ fees. length fees + 5 ≤ 7) (place + 5) destination object charge (fee_taken charge amount) now (omega arith) (omega arith))
-
-pub split_few : (place account object : ℕ) (charge : Charge) (amount now p at : ℕ)
-    → length (rows_from p at (split_rows place account object charge amount now)) ≤ 7
-split_few place account object charge amount now p at =
-    by_kind (λ split. length (rows_from p at split) ≤ 7) place account object charge amount now (omega arith)
-    (by_fee (λ fees. length (rows_from (p + 1) at fees) + 1 ≤ 7) (place + 1) account object charge (fee_taken charge amount) now (omega arith) (omega arith))
-    (λ destination. by_fee (λ fees. length (rows_from (p + 1 + 1 + 1 + 1 + 1) at fees) + 5 ≤ 7) (place + 5) destination object charge
+    (by_fee (λ fees. length (a_row ∷ fees) ≤ 7) (place + 1) account object charge (fee_taken charge amount) now (omega arith) (omega arith))
+    (λ destination. by_fee (λ fees. length (a_row ∷ a_row ∷ a_row ∷ a_row ∷ a_row ∷ fees) ≤ 7) (place + 5) destination object charge
     (fee_taken charge amount) now (omega arith) (omega arith))
+
+-- and stands as as many
+rows_as_many : (place at : ℕ) (split : List SplitRow) → length (rows_from place at split) ≡ length split
+rows_as_many place at [] = refl
+rows_as_many place at (row ∷ split) = ap (λ n. suc n) (rows_as_many (place + 1) at split)
 
 -- it shows nothing of payment intents and attempts
 pub split_shows : (place account object : ℕ) (charge : Charge) (amount now p at : ℕ)
@@ -162,8 +166,8 @@ pub split_tells : (place account object : ℕ) (charge : Charge) (amount now p a
 split_tells place account object charge amount now p at =
     by_kind (λ split. length (split_events (rows_from p at split)) ≤ 2) place account object charge amount now (omega arith)
     (by_fee (λ fees. length (split_events (rows_from (p + 1) at fees)) ≤ 2) (place + 1) account object charge (fee_taken charge amount) now (omega arith) (omega arith))
-    (λ destination. by_fee (λ fees. length (split_events (rows_from (p + 1 + 1 + 1 + 1 + 1) at fees)) + 1 ≤ 2) (place + 5) destination object charge
-    (fee_taken charge amount) now (omega arith) (omega arith))
+    (λ destination. by_fee (λ fees. length (record { sort = event.TransferCreated; object = p + 1 } ∷ split_events (rows_from (p + 1 + 1 + 1 + 1 + 1) at fees)) ≤ 2)
+    (place + 5) destination object charge (fee_taken charge amount) now (omega arith) (omega arith))
 
 -- it leaves what is held for payment intents: a payment holds nothing
 pub split_leaves : (state : ViewState) (other place account object : ℕ) (charge : Charge) (amount now p at : ℕ) → IsInOrder state
@@ -191,7 +195,10 @@ captured_few account object charge amount batch =
     let is : length (with_captured account object charge amount batch).rows ≡ length (batch.rows ++ row ∷ behind) =
     ap (λ (rows : List Row). length rows) (captured_is account object charge amount batch) in
     let both : length (batch.rows ++ row ∷ behind) ≡ length batch.rows + length (row ∷ behind) = length-append batch.rows (row ∷ behind) in
-    let few : length behind ≤ 7 = split_few (last_place batch + 2) account object charge amount batch.at (last_place batch + 2) batch.at in
+    let many : length behind ≡ length (split_rows (last_place batch + 2) account object charge amount batch.at) =
+    rows_as_many (last_place batch + 2) batch.at (split_rows (last_place batch + 2) account object charge amount batch.at) in
+    let few : length (split_rows (last_place batch + 2) account object charge amount batch.at) ≤ 7 =
+    rows_few (last_place batch + 2) account object charge amount batch.at in
     let one : length (row ∷ behind) ≡ length behind + 1 = omega arith in
     omega arith
 
