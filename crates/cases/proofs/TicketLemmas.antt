@@ -15,6 +15,11 @@ use Rattle.ph_book.specs.State.{BookState, entered}
 use Rattle.ph_book.specs.Tickets.{Holds}
 use Rattle.cases.specs.Desks.{AreHeld, DeskState, IsApart}
 
+-- what holds of a setup and a history that are read from a book holds of the book's
+pub runs_read : (setup read : Setup) (history entries : List Entry) → read ≡ setup → entries ≡ history → RunsFollow read entries → RunsFollow setup history
+runs_read setup read history entries same same_history runs =
+    subst (λ (p : Setup × List Entry). RunsFollow p.0 p.1) (λ i. (same i, same_history i)) runs
+
 -- ---- entries that end no run
 
 -- tickets in hand stay good where an entry is to end no run

@@ -3,7 +3,6 @@ use Rattle.std.proofs.Common.{◌≡◌, ℕ, ◌+◌, ◌≤◌, Bool, true, fa
 use Rattle.std.specs.Option.{option_or}
 use Rattle.std.proofs.lemmas.Bool.Decides.{nat_tests}
 use Rattle.ph_base.specs.declared.ids.Kind.{Kind}
-use Rattle.ph_base.specs.declared.ids.Kind.TheVariants as kind
 use Rattle.ph_errors.specs.declared.api_error.ApiError.{ApiError}
 use Rattle.ph_errors.specs.Table.{ClockBackwards, InvalidApiKey, NoSuchAccount, error_of}
 use Rattle.ph_items.specs.Clocks.{clock_limit}
@@ -23,7 +22,6 @@ use Rattle.ph_calls.specs.declared.call.Call.TheVariants as call
 use Rattle.ph_calls.specs.Reading.{reading_of}
 use Rattle.ph_calls.specs.Fit as calls
 use Rattle.ph_calls.proofs.FitLemmas.{reading_fit}
-
 use Rattle.ph_disputes.specs.Answers.{evidence_outcome}
 use Rattle.ph_disputes.specs.Closing.{close_outcome}
 use Rattle.ph_intents.specs.Cancel.{cancel_outcome}

@@ -1,17 +1,16 @@
 -- What the program makes of a call, by what is seen of its outcome.
-use Rattle.std.proofs.Common.{◌≡◌, ℕ, ◌∷◌, List, [], Option, Some, None, refl, ap, sym, ◌∙◌}
-use Rattle.ph_errors.specs.declared.api_error.ApiError.{ApiError}
+use Rattle.std.proofs.Common.{◌≡◌, ℕ, List, Option, None, refl, ap, sym, ◌∙◌}
 use Rattle.ph_items.specs.declared.orders.Order.{Order}
 use Rattle.ph_rows.specs.Batches.{BatchState, made_rows}
 use Rattle.ph_rows.specs.declared.rows.Row.{Row}
-use Rattle.ph_facts.specs.Outcomes.{Outcome, Refuses, Adds, Seen, Refused, Added, seen}
+use Rattle.ph_facts.specs.Outcomes.{Outcome, Refuses, Adds, Added, seen}
 use Rattle.ph_facts.specs.Touches.{order_asked}
 use Rattle.ph_book.specs.Called.{IsMade}
 use Rattle.ph_base.specs.declared.acquirer.Ruling.{Ruling}
 use Rattle.ph_disputes.specs.Due.{open_due_of}
 use Rattle.ph_book.specs.Calls.{Upshot, Rejects, Makes, Shows, Sets, and_opened}
 use Rattle.ph_book.specs.History.{Effect, call_effect, outcome_rows, shown_or_waits}
-use Rattle.ph_book.specs.Replies.{Said, ruling_reply, settled_reply}
+use Rattle.ph_book.specs.Replies.{ruling_reply, settled_reply}
 
 -- what is said to an accepted call, and the rows that it makes
 pub record IsAdded (now : ℕ) (rows : List Row) (object : ℕ) (order : Option Order) (batch : BatchState) (effect : Effect) : Type 0 where
@@ -46,6 +45,6 @@ ruled_seen rows (Adds touch shown begun) object batch after made opened now how 
     let one : shown ≡ object = cc in
     let three : begun ≡ batch = cc in (
       ap (λ (p : ℕ × BatchState). settled_reply now rows how p.0 (open_due_of rows p.0 p.1)) (λ i. (one i, three i))
-      ∙ ap (settled_reply now rows how object) (sym opened),
+          ∙ ap (settled_reply now rows how object) (sym opened),
       ap (λ (p : ℕ × BatchState). made_rows None (open_due_of rows p.0 p.1)) (λ i. (one i, three i)) ∙ ap (made_rows None) (sym opened),
     )

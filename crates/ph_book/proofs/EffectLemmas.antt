@@ -1,6 +1,6 @@
 -- What entries come to: sound rows that show what is done, which may come after the past.
-use Rattle.std.proofs.Common.{◌≡◌, ℕ, suc, ◌+◌, ◌≤◌, ◌<◌, ◌^◌, ◌∷◌, ◌++◌, max, List, [], length, Option, Some, None, refl, sym, ap, ◌∙◌, subst, length-append, arith}
-use Rattle.std.specs.Prelude.{◌==◌, cond}
+use Rattle.std.proofs.Common.{◌≡◌, ℕ, suc, ◌+◌, ◌≤◌, ◌∷◌, ◌++◌, max, List, [], length, Option, Some, None, refl, sym, ap, ◌∙◌, subst, length-append, arith}
+use Rattle.std.specs.Prelude.{◌==◌}
 use Rattle.std.proofs.lemmas.List.{append-nil}
 use Rattle.std.proofs.lemmas.Option.{cond_some}
 use Rattle.std.proofs.lemmas.Bool.{eqb-true}
@@ -20,12 +20,11 @@ use Rattle.ph_items.specs.declared.items.Item.TheVariants as item
 use Rattle.ph_items.specs.declared.orders.Order.{Order}
 use Rattle.ph_rows.specs.declared.rows.Row.{Row}
 use Rattle.ph_rows.specs.declared.batches.Announced.{Announced}
-use Rattle.ph_rows.specs.Batches.{BatchState, empty_batch, event_rows, last_place, made_rows, with_row}
-use Rattle.ph_rows.specs.Rows.{latest_of, row_at}
+use Rattle.ph_rows.specs.Batches.{BatchState, event_rows, last_place, made_rows, with_row}
+use Rattle.ph_rows.specs.Rows.{row_at}
 use Rattle.ph_rows.specs.Views.{ViewState}
-use Rattle.ph_facts.specs.Keeps.{IsDone, IsReady, KeepsRows, MayBeAdded, MayBeDone, batch_after, most_rows}
-use Rattle.ph_facts.specs.Order.{AllMayFollow}
-use Rattle.ph_facts.specs.Origins.{HasOrigins, origins_of}
+use Rattle.ph_facts.specs.Keeps.{IsDone, IsReady, KeepsRows, MayBeAdded, batch_after, most_rows}
+use Rattle.ph_facts.specs.Origins.{origins_of}
 use Rattle.ph_facts.specs.Outcomes.{Outcome, Refuses, Adds}
 use Rattle.ph_facts.specs.Shown.{HasAttempt, ShowsAttempt, shown_in, shows}
 use Rattle.ph_facts.specs.Sound.{IsSound}
@@ -38,7 +37,6 @@ use Rattle.ph_facts.proofs.OriginLemmas.{have_begun-before}
 use Rattle.ph_facts.proofs.SoundLemmas.{latest_of_sound, sound_later}
 use Rattle.ph_facts.proofs.UnderwayLemmas.{IsUnderway, underway_further}
 use Rattle.ph_doings.specs.Doings.{Doing, Leaves, doing_of, touch_of}
-use Rattle.ph_doings.specs.Doings as doing
 use Rattle.ph_doings.specs.Lawful.{IsLawful, MayDo}
 use Rattle.ph_doings.specs.Rows.{MayEnd, shown_of}
 use Rattle.ph_doings.specs.Runs.{Run, NoRun, Flies, live_run, runs_begun, runs_ended}
@@ -54,7 +52,7 @@ use Rattle.ph_book.specs.declared.acts.Deed.TheVariants as deed
 use Rattle.ph_book.specs.Calls.{Upshot, Rejects, Makes, Shows, Sets, and_opened, called_at}
 use Rattle.ph_book.specs.Entries.{IsWithinClock}
 use Rattle.ph_book.specs.History.{Effect, call_effect, effect_of, ended_effect, finish_effect, outcome_effect, outcome_said, outcome_touch, park_effect, parked_by, parked_from, parked_outcome, ruled_outcome}
-use Rattle.ph_book.specs.Replies.{Said, park_reply, ruling_reply}
+use Rattle.ph_book.specs.Replies.{Said}
 use Rattle.ph_book.specs.Runs.{if_own, own_run}
 use Rattle.ph_book.proofs.CallLemmas.{KeepsCall, called_keeps}
 
@@ -172,9 +170,12 @@ done_opened state most touch object (Refuses error) ready less done = done
 done_opened state most touch object (Adds does shows_ batch) ready less done =
     let added = done.2 in
     let few = added.few in
-    let room = ready.room in
-    (done.0, done.1, added_few state (most + 4) most_rows touch (open_due_of state.rows shows_ batch)
-    (open_due_keeps state most touch batch shows_ ready.sound added (omega arith)) less)
+    let room = ready.room in (
+      done.0,
+      done.1,
+      added_few state (most + 4) most_rows touch (open_due_of state.rows shows_ batch)
+          (open_due_keeps state most touch batch shows_ ready.sound added (omega arith)) less,
+    )
 
 -- the end of a run, of what may come
 ended_comes : (state : ViewState) (past : List Doing) (flight : Flight) (reply : Reply) (touch : Touch) (object : ℕ) (outcome : Outcome) → Stands state past

@@ -1,5 +1,5 @@
 -- What is said to entries: replies with their statuses.
-use Rattle.std.proofs.Common.{◌≡◌, ◌≢◌, ℕ, ◌+◌, ◌<◌, ◌^◌, ◌∷◌, ◌++◌, Bool, true, false, cond, not, ◌==◌, ◌&&◌, ◌||◌, List, [], length, Option, Some, None, refl, sym, ap, ◌∙◌, subst, codes, IsTrue}
+use Rattle.std.proofs.Common.{◌≡◌, ◌≢◌, ℕ, ◌+◌, ◌<◌, ◌^◌, ◌∷◌, Bool, true, false, not, ◌==◌, ◌&&◌, ◌||◌, List, [], length, Option, Some, None, refl, sym, ap, ◌∙◌, subst, codes, IsTrue}
 use Rattle.std.specs.Option.{option_or}
 use Rattle.std.proofs.lemmas.Bool.{cond-true, eq-eqb, eqb-true, false≢true}
 use Rattle.ph_base.specs.declared.acquirer.Decline.{Decline}
@@ -13,7 +13,6 @@ use Rattle.ph_http.specs.Replies.{is_status}
 use Rattle.ph_http.specs.declared.message.Raw.{Raw}
 use Rattle.ph_http.specs.declared.message.Reply.{Reply}
 use Rattle.ph_items.specs.declared.intents.CaptureMethod.{CaptureMethod}
-use Rattle.ph_items.specs.declared.intents.IntentStatus.{IntentStatus}
 use Rattle.ph_items.specs.declared.orders.Order.{Order}
 use Rattle.ph_rows.specs.Batches.{BatchState, version_with}
 use Rattle.ph_rows.specs.Rows.{latest_of}
@@ -23,11 +22,11 @@ use Rattle.ph_facts.specs.Keeps.{IsDone, most_rows}
 use Rattle.ph_facts.specs.Outcomes.{Outcome, Refuses, Adds}
 use Rattle.ph_facts.specs.Shown.{shown_in, shows}
 use Rattle.ph_facts.specs.Statuses.{status_ruled}
-use Rattle.ph_facts.specs.Touches.{Touch, Settles, order_asked}
+use Rattle.ph_facts.specs.Touches.{Settles, order_asked}
 use Rattle.ph_doings.specs.Doings as doing
 use Rattle.ph_doings.specs.Statuses.{status_of}
 use Rattle.ph_doings.proofs.RowLemmas.{rows_say_past}
-use Rattle.ph_book.specs.Answers.{HasStatus, IsNoPark, IsRuled, Says, is_ruled}
+use Rattle.ph_book.specs.Answers.{HasStatus, IsNoPark, Says, is_ruled}
 use Rattle.ph_book.specs.Calls.{Upshot, Rejects, Makes, Shows, Sets, called_at}
 use Rattle.ph_book.specs.Called.{Steps}
 use Rattle.ph_book.specs.Entries.{call_entry, finish_entry}

@@ -9,9 +9,7 @@ use Rattle.ph_attempts.specs.Attempts.{Step, is_same_run}
 use Rattle.ph_attempts.specs.Attempts as step
 use Rattle.ph_attempts.specs.declared.flights.Flight.{Flight}
 use Rattle.ph_http.specs.declared.message.Raw.{Raw}
-use Rattle.ph_http.specs.declared.message.Reply.{Reply}
 use Rattle.ph_items.specs.declared.intents.CaptureMethod.{CaptureMethod}
-use Rattle.ph_items.specs.declared.orders.Order.{Order}
 use Rattle.ph_facts.specs.Keeps.{most_rows}
 use Rattle.ph_facts.specs.Outcomes.{Refuses, Adds}
 use Rattle.ph_facts.specs.Touches as touch
@@ -31,10 +29,10 @@ use Rattle.ph_book.specs.declared.acts.Deed.TheVariants as deed
 use Rattle.ph_book.specs.Calls.{Upshot, Rejects, Makes, Shows, Sets, called_at}
 use Rattle.ph_book.specs.Called.{Steps, StepsAs}
 use Rattle.ph_book.specs.Entries.{call_entry, finish_entry, park_entry}
-use Rattle.ph_book.specs.History.{call_effect, doings_of, effect_to, finish_effect, park_effect, past_of, rows_after, rows_of, said_to, time_after, time_of, view_of}
+use Rattle.ph_book.specs.History.{call_effect, doings_of, effect_to, finish_effect, park_effect, past_of, rows_after, rows_of, time_after, time_of, view_of}
 use Rattle.ph_book.specs.Laws.{RunsFollow, ended_in}
 use Rattle.ph_book.specs.Legal.{IsLegal}
-use Rattle.ph_book.specs.Replies.{Said, Replies, Waits}
+use Rattle.ph_book.specs.Replies.{Said}
 use Rattle.ph_book.specs.Runs.{if_own, own_run}
 use Rattle.ph_book.specs.Tickets.{Holds}
 use Rattle.ph_book.proofs.EffectLemmas.{done_touch, own_is, own_may_end, parked_done, raw_steps, ruled_done}
@@ -113,10 +111,12 @@ finish_does setup history caller ticket ruling few legal holds =
     let stands = history_stands setup history few legal in
     let own : own_run (doings_of setup history) caller ticket.run ≡ Some ticket = holds in
     let may = own_may_end (view_of setup history) (doings_of setup history) caller ticket.run ticket stands own in
-    let place = length (past_of setup history) + 1 in
-    (may.intent, may.processing.intent.capture_method,
-    ap (λ (run : Option Flight). (finish_effect None (rows_of setup history) (time_of setup history) place ruling run).doing) own
-    ∙ ap (doing_of ticket.caller ticket.run) (done_touch (view_of setup history) most_rows _ may.intent _ (ruled_done (view_of setup history) (doings_of setup history) place ticket ruling stands may)))
+    let place = length (past_of setup history) + 1 in (
+      may.intent,
+      may.processing.intent.capture_method,
+      ap (λ (run : Option Flight). (finish_effect None (rows_of setup history) (time_of setup history) place ruling run).doing) own
+          ∙ ap (doing_of ticket.caller ticket.run) (done_touch (view_of setup history) most_rows _ may.intent _ (ruled_done (view_of setup history) (doings_of setup history) place ticket ruling stands may)),
+    )
 
 -- the end of a live run parks it
 park_does : (setup : Setup) (history : List Entry) (caller : ℕ) (ticket : Flight) (why : Why) → setup.entries < 2 ^ 32 → IsLegal setup history
@@ -127,10 +127,11 @@ park_does setup history caller ticket why few legal holds =
     let stands = history_stands setup history few legal in
     let own : own_run (doings_of setup history) caller ticket.run ≡ Some ticket = holds in
     let may = own_may_end (view_of setup history) (doings_of setup history) caller ticket.run ticket stands own in
-    let place = length (past_of setup history) + 1 in
-    (may.intent,
-    ap (λ (run : Option Flight). (park_effect None (rows_of setup history) (time_of setup history) place why run).doing) own
-    ∙ ap (doing_of ticket.caller ticket.run) (done_touch (view_of setup history) most_rows _ 0 _ (parked_done (view_of setup history) place may.intent ticket.order stands.ready may.attempt)))
+    let place = length (past_of setup history) + 1 in (
+      may.intent,
+      ap (λ (run : Option Flight). (park_effect None (rows_of setup history) (time_of setup history) place why run).doing) own
+          ∙ ap (doing_of ticket.caller ticket.run) (done_touch (view_of setup history) most_rows _ 0 _ (parked_done (view_of setup history) place may.intent ticket.order stands.ready may.attempt)),
+    )
 
 -- ---- a run stays
 

@@ -1,24 +1,19 @@
 -- Every legal history stands: its rows are sound, and show what was done, each of which might come where it stands.
-use Rattle.std.proofs.Common.{◌≡◌, ℕ, suc, ◌+◌, ◌*◌, ◌^◌, ◌≤◌, ◌<◌, ◌∷◌, ◌++◌, Bool, true, false, ◌||◌, nat_lt, List, [], length, Option, Some, None, refl, sym, ap, ◌∙◌, subst, length-append, arith}
+use Rattle.std.proofs.Common.{◌≡◌, ℕ, suc, ◌+◌, ◌*◌, ◌^◌, ◌≤◌, ◌<◌, ◌∷◌, ◌++◌, Bool, true, false, ◌||◌, nat_lt, List, [], length, None, refl, sym, ap, ◌∙◌, subst, length-append, arith}
 use Rattle.std.specs.List.{fold}
 use Rattle.std.proofs.lemmas.Bool.Decides.{nat_tests}
-use Rattle.ph_base.specs.declared.acquirer.Ruling.{Ruling}
-use Rattle.ph_base.specs.declared.acquirer.Why.{Why}
-use Rattle.ph_attempts.specs.declared.flights.Flight.{Flight}
 use Rattle.ph_http.specs.declared.message.Raw.{Raw}
 use Rattle.ph_items.specs.Clocks.{clock_limit}
-use Rattle.ph_items.specs.declared.events.Event.{Event}
-use Rattle.ph_rows.specs.declared.rows.Row.{Row}
 use Rattle.ph_rows.specs.Views.{ViewState}
-use Rattle.ph_facts.specs.Keeps.{IsReady, most_rows}
+use Rattle.ph_facts.specs.Keeps.{most_rows}
 use Rattle.ph_facts.specs.Order.{MayFollow}
-use Rattle.ph_facts.specs.Shown.{shown_in, shows}
+use Rattle.ph_facts.specs.Shown.{shown_in}
 use Rattle.ph_facts.specs.Sound.{IsSound}
 use Rattle.ph_facts.proofs.DoneLemmas.{shown_after}
 use Rattle.ph_facts.proofs.LawLemmas.{laws_beside}
 use Rattle.ph_facts.proofs.OrderLemmas.{order_with_all}
 use Rattle.ph_facts.proofs.SoundLemmas.{sound_empty, sound_with_all}
-use Rattle.ph_doings.specs.Doings.{Doing, Leaves, Puts, Edits, Begins, Resumes, Parks, Settles, touch_of}
+use Rattle.ph_doings.specs.Doings.{Doing, Leaves, Puts, Edits, Begins, Resumes, Parks, Settles}
 use Rattle.ph_doings.specs.Lawful.{IsLawful}
 use Rattle.ph_doings.specs.Rows.{shown_of}
 use Rattle.ph_doings.specs.Runs.{live_runs, runs_begun, runs_ended}
@@ -27,12 +22,10 @@ use Rattle.ph_book.specs.declared.setup.Setup.{Setup}
 use Rattle.ph_book.specs.declared.acts.Entry.{Entry}
 use Rattle.ph_book.specs.declared.acts.Deed.{Deed}
 use Rattle.ph_book.specs.declared.acts.Deed.TheVariants as deed
-use Rattle.ph_book.specs.Entries.{IsWithinClock}
-use Rattle.ph_book.specs.History.{Effect, Happening, and_then, doings_after, doings_of, effect_after, finish_effect, happening_of, opening_row, park_effect, past_of, rows_after, rows_of, time_after, time_of, view_of}
+use Rattle.ph_book.specs.History.{Happening, and_then, doings_after, doings_of, effect_after, finish_effect, happening_of, opening_row, park_effect, past_of, rows_after, rows_of, time_after, time_of, view_of}
 use Rattle.ph_book.specs.Legal.{AreAllowed, EndsOwn, IsAllowed, IsLegal, is_full_after, raw_weight, used_after, weight_after}
-use Rattle.ph_book.specs.Runs.{own_run}
 use Rattle.ph_book.proofs.EffectLemmas.{Comes, Stands, effect_comes, finish_ends, park_ends}
-use Rattle.ph_book.proofs.HistoryLemmas.{doings_more, length_past, rows_more, time_more}
+use Rattle.ph_book.proofs.HistoryLemmas.{doings_more, rows_more, time_more}
 
 -- the view after what happened
 abbrev pub view_after : Setup → List Happening → ViewState

@@ -1,6 +1,5 @@
 -- What a book keeps after one step more: a call, a ruling, a park.
-use Rattle.std.proofs.Common.{◌≡◌, ℕ, suc, ◌+◌, ◌*◌, ◌^◌, ◌≤◌, ◌<◌, ◌∷◌, ◌++◌, max, Bool, true, false, List, [], length, Option, Some, None, refl, sym, ap, ◌∙◌, subst, find, arith, ◌||◌, ◌&&◌, ◌==◌, cond}
-use Rattle.std.specs.List.{list_any}
+use Rattle.std.proofs.Common.{◌≡◌, ℕ, ◌+◌, ◌*◌, ◌^◌, ◌≤◌, ◌<◌, ◌∷◌, ◌++◌, max, Bool, true, false, List, [], length, Option, Some, None, refl, sym, ap, ◌∙◌, subst, find, arith, ◌||◌, ◌==◌}
 use Rattle.std.proofs.lemmas.Bool.{cond-true, eq-eqb}
 use Rattle.std.proofs.lemmas.Bool.Decides.{nat_tests}
 use Rattle.ph_base.specs.declared.acquirer.Ruling.{Ruling}
@@ -15,7 +14,6 @@ use Rattle.ph_items.specs.Clocks.{clock_limit}
 use Rattle.ph_items.specs.Items.{attempt_in}
 use Rattle.ph_rows.specs.Batches.{empty_batch}
 use Rattle.ph_rows.specs.Rows.{latest_of}
-use Rattle.ph_rows.specs.Views.{ViewState}
 use Rattle.ph_rows.specs.Weights.{rows_weight}
 use Rattle.ph_rows.specs.declared.rows.Row.{Row}
 use Rattle.ph_facts.specs.Keeps.{most_rows}
@@ -23,28 +21,27 @@ use Rattle.ph_facts.specs.Touches.{Touch}
 use Rattle.ph_facts.specs.Touches as touch
 use Rattle.ph_doings.specs.Doings.{Doing, Leaves, doing_of}
 use Rattle.ph_doings.specs.Doings as doing
-use Rattle.ph_doings.specs.Kept.{after_step, attempts_after, is_run, run_in, step_of}
-use Rattle.ph_doings.specs.Lawful.{IsLawful, MayDo}
-use Rattle.ph_doings.specs.Runs.{Flies, live_run, live_runs, runs_begun, runs_ended}
+use Rattle.ph_doings.specs.Kept.{after_step, is_run, run_in, step_of}
+use Rattle.ph_doings.specs.Lawful.{MayDo}
+use Rattle.ph_doings.specs.Runs.{Flies, live_run, runs_begun, runs_ended}
 use Rattle.ph_doings.proofs.Counted.{runs_are_counted}
 use Rattle.ph_doings.proofs.FoundRuns.{runs_are_found}
 use Rattle.ph_doings.proofs.KeptLists.{attempts_are_unsettled}
 use Rattle.ph_book.specs.declared.setup.Setup.{Setup}
-use Rattle.ph_book.specs.declared.acts.Deed.{Deed}
 use Rattle.ph_book.specs.declared.acts.Deed.TheVariants as deed
 use Rattle.ph_book.specs.declared.acts.Entry.{Entry}
 use Rattle.ph_book.specs.declared.calls.Called.{Called}
 use Rattle.ph_book.specs.Called.{IsCalled}
 use Rattle.ph_book.specs.Calls.{called_at}
 use Rattle.ph_book.specs.Entries.{IsWithinClock, call_entry, finish_entry, park_entry, tick_entry}
-use Rattle.ph_book.specs.History.{Effect, call_effect, doings_of, effect_of, effect_to, finish_effect, outcome_rows, outcome_touch, park_effect, parked_by, parked_from, parked_outcome, past_of, rows_of, ruled_outcome, said_to, tick_effect, time_of, view_of}
+use Rattle.ph_book.specs.History.{Effect, call_effect, doings_of, effect_to, finish_effect, outcome_rows, outcome_touch, park_effect, parked_by, parked_from, parked_outcome, past_of, rows_of, ruled_outcome, said_to, tick_effect, time_of, view_of}
 use Rattle.ph_book.specs.Legal.{IsAllowed, deed_weight, is_full, raw_weight}
 use Rattle.ph_book.specs.Replies.{Silence}
 use Rattle.ph_book.specs.Runs.{if_own, own_run}
 use Rattle.ph_book.specs.State.{BookState, IsBook}
 use Rattle.ph_book.specs.Tickets.{Holds}
 use Rattle.ph_book.proofs.EffectLemmas.{Comes, Stands, done_touch, effect_comes, own_is, own_may_end, parked_done, ruled_done}
-use Rattle.ph_book.proofs.HistoryLemmas.{book_more, doings_grow, effect_is, length_past, may_come}
+use Rattle.ph_book.proofs.HistoryLemmas.{book_more, doings_grow, effect_is, may_come}
 use Rattle.ph_book.proofs.StandLemmas.{history_stands, legal_stands}
 
 -- ---- what a book keeps stands

@@ -16,7 +16,6 @@ use Rattle.ph_rows.specs.Batches.{BatchState, empty_batch, made_rows, with_row}
 use Rattle.ph_rows.specs.Rows.{latest_of}
 use Rattle.ph_rows.specs.Views.{ViewState}
 use Rattle.ph_http.specs.declared.message.Reply.{Reply}
-use Rattle.ph_json.specs.declared.doc.Doc.{Doc}
 use Rattle.ph_facts.specs.Outcomes.{Outcome, Refuses, Adds}
 use Rattle.ph_views.specs.Clocks.{clock_doc}
 use Rattle.ph_items.specs.Accounts.{platform}

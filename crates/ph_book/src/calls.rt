@@ -114,13 +114,7 @@ fn make(
     ensures { Comes (Makes (created store.now.rows account call.now batch.old)) result batch.new }
 {
     if call.confirm {
-        begun(begin(
-            alloc,
-            store,
-            account,
-            &Begin::Create(call),
-            batch,
-        ))
+        begun(begin(alloc, store, account, &Begin::Create(call), batch))
     } else {
         added(create(alloc, store, account, call, batch))
     }

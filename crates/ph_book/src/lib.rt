@@ -16,10 +16,9 @@ mod weights;
 pub use acts::{Act, Answer, Deed, Entry};
 pub use book::Book;
 pub use laws::{
-    all_but_the_last_were_challenged, amounts_are_sums, balances_are_sums,
-    disputes_move_once, history_is_legal, ids_differ, live_runs_are_shown,
-    processing_has_one_attempt, references_differ, refunds_fit,
-    runs_follow,
+    all_but_the_last_were_challenged, amounts_are_sums, balances_are_sums, disputes_move_once,
+    history_is_legal, ids_differ, live_runs_are_shown, processing_has_one_attempt,
+    references_differ, refunds_fit, runs_follow,
 };
 pub use ph_lock::Refused;
 pub use setup::Setup;

@@ -58,6 +58,7 @@ pub fn answer<A: Acquirer, P: Patience>(
 }
 
 // Enters a call.
+#[tactic(auto, using(crate::proofs::LiveLemmas::live_answered, crate::proofs::LiveLemmas::live_begun))]
 fn call(book: &mut Book, raw: Raw) -> Called
     ensures { Calls book.old book.new raw result }
 {
@@ -98,6 +99,7 @@ fn settle(book: &mut Book, ticket: Ticket, driven: Driven) -> Outcome
 }
 
 // Enters a ruling on the order of a ticket's run. Where there is no memory, the ticket comes back.
+#[tactic(auto, using(crate::proofs::LiveLemmas::live_ended))]
 fn finish(book: &mut Book, ticket: Ticket, ruling: Ruling) -> Result<Reply, Ticket>
     requires own { Holds book.old.setup book.old.history 0 ticket }
     ensures { Finishes book.old book.new ticket ruling result }
@@ -121,6 +123,7 @@ fn finish(book: &mut Book, ticket: Ticket, ruling: Ruling) -> Result<Reply, Tick
 }
 
 // Gives up the run of a ticket. A book never refuses that.
+#[tactic(auto, using(crate::proofs::LiveLemmas::live_ended))]
 fn park(book: &mut Book, ticket: Ticket, why: Why) -> Reply
     requires own { Holds book.old.setup book.old.history 0 ticket }
     ensures { Ended book.old book.new ticket (GivenUp why) result }

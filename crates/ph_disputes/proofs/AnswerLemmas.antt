@@ -1,6 +1,6 @@
 -- Evidence and closes may be entered.
 use Rattle.std.specs.Prelude.{◌||◌}
-use Rattle.std.proofs.Common.{◌≡◌, ℕ, ◌+◌, ◌^◌, ◌≤◌, ◌<◌, Bool, true, false, cond, List, [], ◌∷◌, ◌++◌, Option, Some, length, refl, sym, ap, ◌∙◌, subst, arith, codes}
+use Rattle.std.proofs.Common.{◌≡◌, ℕ, ◌+◌, ◌^◌, ◌≤◌, ◌<◌, Bool, true, false, cond, List, [], ◌∷◌, ◌++◌, Option, length, refl, sym, ap, ◌∙◌, subst, arith, codes}
 use Rattle.std.specs.List.{list_all, list_any}
 use Rattle.std.specs.Str.{is_utf8}
 use Rattle.std.proofs.lemmas.Bool.{cond_both, eq-eqb, false≢true, ne_eqb}
@@ -11,7 +11,6 @@ use Rattle.ph_items.specs.declared.disputes.Dispute.{Dispute}
 use Rattle.ph_items.specs.declared.disputes.DisputeStatus.{DisputeStatus}
 use Rattle.ph_items.specs.declared.disputes.DisputeStatus.TheVariants as status
 use Rattle.ph_items.specs.declared.event_kinds.EventKind.TheVariants as event
-use Rattle.ph_items.specs.declared.items.Item.{Item}
 use Rattle.ph_items.specs.declared.items.Item.TheVariants as item
 use Rattle.ph_items.specs.Kinds.{kind_of}
 use Rattle.ph_items.specs.Weights.{texts_of}

@@ -1,29 +1,20 @@
 -- What may come after the past, by rows that show it.
 use Rattle.std.specs.Prelude.{option_and_then}
-use Rattle.std.proofs.Common.{◌≡◌, ℕ, suc, List, [], ◌∷◌, Option, Some, None, length, refl, sym, ap, ◌∙◌, subst}
-use Rattle.ph_base.specs.declared.acquirer.Ruling.{Ruling}
-use Rattle.ph_base.specs.declared.acquirer.Ruling.TheVariants as ruling
-use Rattle.ph_items.specs.Items.{intent_in}
-use Rattle.ph_items.specs.declared.attempts.AttemptState.TheVariants as state
-use Rattle.ph_items.specs.declared.intents.Intent.{Intent}
+use Rattle.std.proofs.Common.{◌≡◌, ℕ, List, Option, Some, None, refl, sym, ap, ◌∙◌}
 use Rattle.ph_items.specs.declared.intents.IntentStatus.{IntentStatus}
 use Rattle.ph_items.specs.declared.items.Item.{Item}
 use Rattle.ph_items.specs.declared.items.Item.TheVariants as item
-use Rattle.ph_items.specs.declared.orders.Order.{Order}
 use Rattle.ph_rows.specs.Rows.{latest_of}
 use Rattle.ph_rows.specs.Views.{ViewState}
 use Rattle.ph_rows.specs.declared.rows.Row.{Row}
-use Rattle.ph_facts.specs.Keeps.{MayBeDone}
 use Rattle.ph_facts.specs.Order.{IsInOrder}
-use Rattle.ph_facts.specs.Shown.{HasAttempt, HasIntent, shown_in, status_by, status_in}
-use Rattle.ph_facts.specs.Statuses.{may_begin, may_put, state_ruled}
-use Rattle.ph_facts.specs.Touches.{Touch, Untouched, Puts, Edits, Begins, Resumes, Parks, Settles}
+use Rattle.ph_facts.specs.Shown.{shown_in, status_by, status_in}
+use Rattle.ph_facts.specs.Statuses.{may_begin, may_put}
+use Rattle.ph_facts.specs.Touches.{Untouched, Puts, Edits, Begins, Resumes, Parks, Settles}
 use Rattle.ph_facts.proofs.DoneLemmas.{status_found}
-use Rattle.ph_attempts.specs.declared.flights.Flight.{Flight}
-use Rattle.ph_doings.specs.Doings.{Doing, doing_of}
-use Rattle.ph_doings.specs.Lawful.{IsLawful, MayDo}
-use Rattle.ph_doings.specs.Rows.{AreInRows, LiveRunsMayEnd, MayEnd, RowsLetCome, SayPast, StandsAs, shown_of, state_shown}
-use Rattle.ph_doings.specs.Standings.{State, Live, Parked, Settled, Standing, Stands, standing_of}
+use Rattle.ph_doings.specs.Doings.{Doing}
+use Rattle.ph_doings.specs.Rows.{LiveRunsMayEnd, RowsLetCome, SayPast, shown_of}
+use Rattle.ph_doings.specs.Standings.{Live}
 use Rattle.ph_doings.specs.Statuses.{status_of}
 use Rattle.ph_doings.proofs.LawProofs.{live_is_run}
 use Rattle.ph_doings.proofs.RowLemmas.{past_is_in_rows, rows_say_past}

@@ -1,6 +1,6 @@
 -- What a ruling adds may be entered after sound rows.
 use Rattle.std.specs.Prelude.{option_and_then}
-use Rattle.std.proofs.Common.{◌≡◌, ℕ, ◌+◌, ◌≤◌, ◌<◌, ◌^◌, false, List, [], ◌∷◌, ◌++◌, Option, None, Some, length, refl, sym, ap, ◌∙◌, subst, arith}
+use Rattle.std.proofs.Common.{◌≡◌, ℕ, ◌+◌, ◌≤◌, ◌<◌, ◌^◌, false, List, [], ◌∷◌, ◌++◌, Option, Some, length, refl, sym, ap, ◌∙◌, subst, arith}
 use Rattle.std.specs.List.{list_any}
 use Rattle.std.proofs.lemmas.List.{length-append}
 use Rattle.ph_base.specs.declared.acquirer.Ruling.{Ruling}
@@ -32,7 +32,6 @@ use Rattle.ph_facts.specs.Shown.{Shown, ShowsAttempt, ShowsIntent, shown_in, sho
 use Rattle.ph_facts.proofs.DoneLemmas.{shown_after}
 use Rattle.ph_facts.specs.Touches.{Touch, Settles}
 use Rattle.ph_items.specs.declared.intents.PaymentError.TheVariants as payment_error
-use Rattle.ph_items.specs.declared.items.Item.{Item}
 use Rattle.ph_items.specs.declared.items.Item.TheVariants as item
 use Rattle.ph_rows.specs.Batches.{BatchState, next_row, with_row, with_announced}
 use Rattle.ph_facts.specs.Entering.{MayBeEntered}
@@ -41,7 +40,7 @@ use Rattle.ph_items.specs.Kinds.{kind_of}
 use Rattle.ph_rows.specs.Rows.{row_at, latest_of}
 use Rattle.ph_facts.specs.Held.{AreHeld, IsHeldBy, charge_of}
 use Rattle.ph_facts.specs.Origins.{HasOrigins, IsOrigin, charge_named, origins_of}
-use Rattle.ph_facts.specs.Sound.{IsSound, KeepLaws}
+use Rattle.ph_facts.specs.Sound.{KeepLaws}
 use Rattle.ph_rows.specs.Views.{ViewState}
 use Rattle.ph_items.specs.Weights.{texts_of}
 use Rattle.ph_items.specs.Words.{subject_of}

@@ -1,4 +1,4 @@
-//! The kinds of parameters: what each takes from a form, and how it refuses anything else.
+//! The kinds of parameters: what a value of each is, how a form gives it, and what is wrong with anything else.
 #![tactic(auto)]
 
 mod authentication;

@@ -72,7 +72,9 @@ fn begun(alloc: Global) -> Result<u64, Refusal> {
     let view = platform(alloc)?;
     let mut batch = batch_after(alloc, &view);
     match call_of(alloc, "/v1/payment_intents", CREATE)? {
-        Call::CreateIntent(call) => begin(alloc, &view, 1, &Begin::Create(&call), &mut batch),
+        Call::CreateIntent(call) => {
+            Ok(begin(alloc, &view, 1, &Begin::Create(&call), &mut batch)?.object)
+        }
         _ => Err(Refusal::NoMemory),
     }
 }

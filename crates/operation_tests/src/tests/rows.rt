@@ -5,7 +5,9 @@ use ph_calls::{Authentication, Call, read_call};
 use ph_disputes::close;
 use ph_errors::Refusal;
 use ph_http::Raw;
-use ph_intents::{Begin, begin, cancel, capture, create, fail_authentication, settle, update};
+use ph_intents::{
+    Begin, Begun, begin, cancel, capture, create, fail_authentication, settle, update,
+};
 use ph_items::{Account, AccountType, Charge, Intent, Item, Metadata, PLATFORM};
 use ph_rows::{Batch, ListView, Row, View};
 use std::alloc::Global;
@@ -69,6 +71,11 @@ pub fn call_of(alloc: Global, path: &str, body: &str) -> Result<Call, NoMemory> 
     }
 }
 
+// The payment intent that a call which begins an attempt shows.
+fn shown(begun: Result<Begun, Refusal>) -> Result<u64, Refusal> {
+    Ok(begun?.object)
+}
+
 // Adds what a call of an account adds.
 fn add(
     alloc: Global,
@@ -79,15 +86,17 @@ fn add(
 ) -> Result<u64, Refusal> {
     match call {
         Call::CreateIntent(call) if call.confirm => {
-            begin(alloc, view, account, &Begin::Create(call), batch)
+            shown(begin(alloc, view, account, &Begin::Create(call), batch))
         }
         Call::CreateIntent(call) => create(alloc, view, account, call, batch),
         Call::UpdateIntent(call) => update(alloc, view, account, call, batch),
-        Call::ConfirmIntent(call) => begin(alloc, view, account, &Begin::Confirm(call), batch),
+        Call::ConfirmIntent(call) => {
+            shown(begin(alloc, view, account, &Begin::Confirm(call), batch))
+        }
         Call::CaptureIntent(call) => capture(alloc, view, account, call, batch),
         Call::CancelIntent(call) => cancel(alloc, view, account, call, batch),
         Call::Authenticate(call) if call.outcome == Authentication::Succeeded => {
-            begin(alloc, view, account, &Begin::Authenticate(call), batch)
+            shown(begin(alloc, view, account, &Begin::Authenticate(call), batch))
         }
         Call::Authenticate(call) => fail_authentication(alloc, view, account, call, batch),
         Call::CloseDispute(call) => close(alloc, view, account, call, batch),

@@ -1,4 +1,4 @@
-use Rattle.std.proofs.Common.{◌≡◌, refl, sym, ap, ◌∙◌, subst, [], Some, None}
+use Rattle.std.proofs.Common.{◌≡◌, sym, ap, ◌∙◌, subst, Some, None}
 use Rattle.ph_rows.specs.Batches.{BatchState}
 use Rattle.ph_json.specs.declared.doc.Doc.{Doc}
 use Rattle.ph_facts.specs.Outcomes.{Refuses, Added}

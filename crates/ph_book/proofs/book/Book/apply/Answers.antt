@@ -14,7 +14,6 @@ use Rattle.ph_book.proofs.book.Book.apply.Goals as goal
 pub returns-in-Ok-clause-kind : goal.returns-in-Ok-clause-kind
 returns-in-Ok-clause-kind c = subst (λ (act : Act). IsAnswerTo act c.in-Ok.answer) (sym c.in-Call.is) c.in-Ok.ensures.kind
 
-
 pub returns-in-Ok-finish-clause-kind : goal.returns-in-Ok-finish-clause-kind
 returns-in-Ok-finish-clause-kind c =
     subst (λ (act : Act). IsAnswerTo act (answer.Reply c.in-Ok-finish.reply)) (sym c.in-Finish.is) c.in-Ok-finish.ensures.ruled
