@@ -55,6 +55,24 @@ pub fn rows() -> &'static [TableRow]
     &TABLE
 }
 
+// The names of the create of an account, in the same order.
+fn account_names() -> &'static [&'static [u8]]
+    ensures { map (λ name. name.now) result.now ≡ map name_of (params_of Name.CreateAccount) }
+{
+    &[
+        b"type",
+        b"email",
+        b"metadata",
+        b"country",
+        b"capabilities",
+        b"business_type",
+        b"business_profile",
+        b"tos_acceptance",
+        b"controller",
+        b"settings",
+    ]
+}
+
 /// The names of a call's parameters, and behind them those that it accepts with anything below them and without effect.
 pub fn names_of(call: Name) -> &'static [&'static [u8]]
     ensures { map (λ name. name.now) result.now ≡ map name_of (params_of call) }
@@ -105,18 +123,7 @@ pub fn names_of(call: Name) -> &'static [&'static [u8]]
             b"metadata",
         ],
         Name::SendEvidence => &[b"evidence[uncategorized_text]", b"submit"],
-        Name::CreateAccount => &[
-            b"type",
-            b"email",
-            b"metadata",
-            b"country",
-            b"capabilities",
-            b"business_type",
-            b"business_profile",
-            b"tos_acceptance",
-            b"controller",
-            b"settings",
-        ],
+        Name::CreateAccount => account_names(),
         Name::SetClock => &[b"now"],
         Name::Authenticate => &[b"outcome"],
         Name::CloseDispute | Name::Retrieve(_) | Name::GetBalance => &[],
