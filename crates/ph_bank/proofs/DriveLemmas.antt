@@ -34,11 +34,11 @@ waits-more : (order : Order) (count : ℕ) → waits order count ++ (record { or
 waits-more order zero = refl
 waits-more order (suc count) = ap (λ (asks : List Ask). (record { order = order; answer = Ok Pending }) ∷ asks) (waits-more order count)
 
-keeps-same : (decisions : Option (ℕ → Option Ruling)) → KeepsDecisions decisions decisions
+pub keeps-same : (decisions : Option (ℕ → Option Ruling)) → KeepsDecisions decisions decisions
 keeps-same None = refl
 keeps-same (Some decisions) = λ reference ruling h. h
 
-keeps-twice : (first second third : Option (ℕ → Option Ruling)) → KeepsDecisions first second → KeepsDecisions second third → KeepsDecisions first third
+pub keeps-twice : (first second third : Option (ℕ → Option Ruling)) → KeepsDecisions first second → KeepsDecisions second third → KeepsDecisions first third
 keeps-twice None None third h k = k
 keeps-twice None (Some second) third h k = let no : Some second ≡ None = h in cc
 keeps-twice (Some first) None third h k = absurd h

@@ -14,16 +14,21 @@ use Rattle.ph_rows.specs.Weights.{rows_weight}
 use Rattle.ph_http.specs.declared.message.Reply.{Reply}
 use Rattle.ph_lock.specs.declared.object.Refused.{Refused}
 use Rattle.ph_book.specs.declared.setup.Setup.{Setup}
+use Rattle.ph_book.specs.declared.acts.Act.{Act}
+use Rattle.ph_book.specs.declared.acts.Act.TheVariants as act
 use Rattle.ph_book.specs.declared.acts.Entry.{Entry}
 use Rattle.ph_book.specs.declared.acts.Deed.{Deed}
 use Rattle.ph_book.specs.declared.acts.Answer.{Answer}
 use Rattle.ph_book.specs.declared.acts.Answer.TheVariants as answer
 use Rattle.ph_book.specs.Answers.{Says, replies_in}
-use Rattle.ph_book.specs.Entries.{IsWithinClock}
+use Rattle.ph_book.specs.Entries.{IsWithinClock, deed_of, entry_of}
+use Rattle.ph_book.specs.Hosts.{IsLawful}
 use Rattle.ph_book.specs.Replies.{Said, Replies, Waits, Silence, replies_said}
 use Rattle.ph_book.specs.History.{Happening, opening_row, rows_after, time_after, doings_after, effect_of, happening_of, and_then, past_of, rows_of, time_of, doings_of, effect_to, said_to, replies_of}
-use Rattle.ph_book.specs.Legal.{EndsOwn, deed_weight, weight_after, used_after, is_full_at, is_full_after, is_full, IsAllowed, AreAllowed}
+use Rattle.ph_book.specs.Legal.{EndsOwn, deed_weight, weight_after, used_after, is_full_at, is_full_after, is_full, IsAllowed, AreAllowed, IsLegal}
 use Rattle.ph_book.specs.State.{BookState, entered, IsBook}
+use Rattle.ph_book.specs.Stays.{doings_more}
+use Rattle.ph_book.specs.Tickets.{Holds, SpendsOwn}
 
 -- a history with one entry more is read as the one before, and then the entry
 pub past_more : (setup : Setup) (history : List Entry) (entry : Entry)
@@ -53,10 +58,7 @@ rows_more setup past h =
 pub time_more : (setup : Setup) (past : List Happening) (h : Happening) → time_after setup (past ++ h ∷ []) ≡ h.now
 time_more setup past h = fold-append (λ (now : ℕ) (x : Happening). x.now) setup.opened past (h ∷ [])
 
--- what was done with one happening more
-pub doings_more : (past : List Happening) (h : Happening) → doings_after (past ++ h ∷ []) ≡ h.doing ∷ doings_after past
-doings_more past h = fold-append (λ (doings : List Doing) (x : Happening). x.doing ∷ doings) [] past (h ∷ [])
-
+-- what was done with one entry more
 pub doings_grow : (setup : Setup) (history : List Entry) (entry : Entry)
     → doings_of setup (history ++ entry ∷ []) ≡ (effect_to setup history entry).doing ∷ doings_of setup history
 unfolding doings_of effect_to
@@ -129,6 +131,12 @@ effect_is setup history rows time weight attempts live place entry b at =
     ap (λ (p : List Row × (ℕ × ℕ)). effect_of setup (doings_after (past_of setup history)) p.0 p.1.0 p.1.1 entry.caller entry.deed)
     (λ i. (rows_are i, (time_is i, places i)))
 
+-- a legal history with one entry more that may come is legal
+pub legal_more : (setup : Setup) (history : List Entry) (entry : Entry) → IsLegal setup history → IsAllowed setup (past_of setup history) entry
+    → IsLegal setup (history ++ entry ∷ [])
+legal_more setup history entry legal allowed =
+    record { opened = legal.opened; allowed = allowed_more setup [] history entry legal.allowed allowed }
+
 -- what a book keeps after one entry more, which comes to these rows, does this, and leaves this time
 pub book_more : (setup : Setup) (history : List Entry) (rows : List Row) (time weight : ℕ) (attempts : List flights.Attempt) (live : ℕ) (entry : Entry)
     (new : List Row) (does : Doing) (now live' : ℕ) → IsBook setup history rows time weight attempts live
@@ -153,7 +161,7 @@ book_more setup history rows time weight attempts live entry new does now live' 
       attempts_are = ap (λ x. after_step x (step_of does)) attempts_are ∙ ap attempts_after doings;
       live_is = counted ∙ ap (λ x. length (live_runs x)) doings;
       few = b.few;
-      legal = record { opened = b.legal.opened; allowed = allowed_more setup [] history entry b.legal.allowed allowed };
+      legal = legal_more setup history entry b.legal allowed;
     }
 
 -- what a book keeps, by equal values
@@ -191,6 +199,25 @@ pub may_come : (setup : Setup) (history : List Entry) (caller : ℕ) (deed : Dee
     → IsAllowed setup (past_of setup history) (record { caller = caller; deed = deed })
 unfolding is_full doings_of
 may_come setup history caller deed below clock own room = record { caller = below; clock = clock; own = own; room = room }
+
+-- an act that spends its own ticket ends a live run of its own caller
+ends_own : (setup : Setup) (history : List Entry) (caller : ℕ) (a : Act) → SpendsOwn setup history caller a → EndsOwn (doings_of setup history) caller (deed_of a)
+unfolding Holds
+ends_own setup history caller (act.Call raw) own = tt
+ends_own setup history caller (act.Finish ticket ruling) own = (ticket, own)
+ends_own setup history caller (act.Park ticket why) own = (ticket, own)
+ends_own setup history caller (act.Tick moment) own = tt
+
+-- the history of a book that an act was entered in is legal
+pub lawful_entered : (old new : BookState) (caller : ℕ) (a : Act) → IsLawful old.setup old.history → caller < 2 ^ 62
+    → SpendsOwn old.setup old.history caller a → IsWithinClock (deed_of a) → is_full old.setup old.history (deed_of a) ≡ false
+    → new ≡ entered old (entry_of caller a) → IsLawful new.setup new.history
+lawful_entered old new caller a lawful below own clock room is =
+    subst (λ (x : BookState). IsLawful x.setup x.history) (sym is) (record {
+      legal = legal_more old.setup old.history (entry_of caller a) lawful.legal
+          (may_come old.setup old.history caller (deed_of a) below clock (ends_own old.setup old.history caller a own) room);
+      few = lawful.few;
+    })
 
 -- a book without entries
 pub book_new : (setup : Setup) → setup.opened ≤ clock_limit → setup.entries < 2 ^ 32 → IsBook setup [] (opening_row setup.opened ∷ []) setup.opened 256 [] 0

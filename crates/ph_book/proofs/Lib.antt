@@ -9,4 +9,9 @@ pub mod StoreLemmas
 pub mod MoneyLemmas
 pub mod ReplyLemmas
 pub mod CalledLemmas
+pub mod CallerLemmas
+pub mod LookLemmas
+pub mod OwnRunLemmas
+pub mod GrowthLemmas
+pub mod HostLemmas
 pub mod RunLemmas

@@ -103,7 +103,7 @@ call_step setup history caller raw few legal =
     (raw_steps setup (view_of setup history) (doings_of setup history) (length (past_of setup history) + 1) caller raw stands.ready)
 
 -- a ruling on a live run settles it
-finish_does : (setup : Setup) (history : List Entry) (caller : ℕ) (ticket : Flight) (ruling : Ruling) → setup.entries < 2 ^ 32 → IsLegal setup history
+pub finish_does : (setup : Setup) (history : List Entry) (caller : ℕ) (ticket : Flight) (ruling : Ruling) → setup.entries < 2 ^ 32 → IsLegal setup history
     → Holds setup history caller ticket
     → (intent : ℕ) × (capture : CaptureMethod) × ((effect_to setup history (finish_entry caller ticket ruling)).doing ≡ Settles intent ticket capture ruling)
 unfolding rows_of time_of doings_of effect_to Holds
@@ -119,7 +119,7 @@ finish_does setup history caller ticket ruling few legal holds =
     )
 
 -- the end of a live run parks it
-park_does : (setup : Setup) (history : List Entry) (caller : ℕ) (ticket : Flight) (why : Why) → setup.entries < 2 ^ 32 → IsLegal setup history
+pub park_does : (setup : Setup) (history : List Entry) (caller : ℕ) (ticket : Flight) (why : Why) → setup.entries < 2 ^ 32 → IsLegal setup history
     → Holds setup history caller ticket
     → (intent : ℕ) × ((effect_to setup history (park_entry caller ticket why)).doing ≡ Parks intent ticket)
 unfolding rows_of time_of doings_of effect_to Holds
@@ -190,7 +190,7 @@ held_run setup history caller ticket lawful holds =
     let own = own_is (doings_of setup history) caller ticket.run ticket lawful holds in (own.0, own.1.1)
 
 -- and a live run of its caller is held by its ticket
-run_held : (setup : Setup) (history : List Entry) (caller : ℕ) (ticket : Flight) → live_run (doings_of setup history) ticket.run ≡ Flies ticket
+pub run_held : (setup : Setup) (history : List Entry) (caller : ℕ) (ticket : Flight) → live_run (doings_of setup history) ticket.run ≡ Flies ticket
     → ticket.caller ≡ caller → Holds setup history caller ticket
 unfolding Holds
 run_held setup history caller ticket flies own =
@@ -207,19 +207,19 @@ still_by setup history entry caller ticket does lawful holds is stays =
     (ap (λ past. live_run past ticket.run) (doings_grow setup history entry ∙ ap (λ d. d ∷ doings_of setup history) is) ∙ stays held.0) held.1
 
 -- what the end of a run that isn't its caller's does
-no_finish : (setup : Setup) (history : List Entry) (caller run : ℕ) (ruling : Ruling) → own_run (doings_of setup history) caller run ≡ None
+pub no_finish : (setup : Setup) (history : List Entry) (caller run : ℕ) (ruling : Ruling) → own_run (doings_of setup history) caller run ≡ None
     → (effect_to setup history (record { caller = caller; deed = deed.Finish run ruling })).doing ≡ Leaves
 unfolding doings_of effect_to
 no_finish setup history caller run ruling none =
     ap (λ (found : Option Flight). (finish_effect None (rows_after setup (past_of setup history)) (time_after setup (past_of setup history)) (length (past_of setup history) + 1) ruling found).doing) none
 
-no_park : (setup : Setup) (history : List Entry) (caller run : ℕ) (why : Why) → own_run (doings_of setup history) caller run ≡ None
+pub no_park : (setup : Setup) (history : List Entry) (caller run : ℕ) (why : Why) → own_run (doings_of setup history) caller run ≡ None
     → (effect_to setup history (record { caller = caller; deed = deed.Park run why })).doing ≡ Leaves
 unfolding doings_of effect_to
 no_park setup history caller run why none =
     ap (λ (found : Option Flight). (park_effect None (rows_after setup (past_of setup history)) (time_after setup (past_of setup history)) (length (past_of setup history) + 1) why found).doing) none
 
-tick_does : (setup : Setup) (history : List Entry) (caller moment : ℕ)
+pub tick_does : (setup : Setup) (history : List Entry) (caller moment : ℕ)
     → (effect_to setup history (record { caller = caller; deed = deed.Tick moment })).doing ≡ Leaves
 unfolding effect_to
 tick_does setup history caller moment = refl

@@ -24,8 +24,9 @@ use Rattle.ph_book.specs.declared.acts.Deed.{Deed}
 use Rattle.ph_book.specs.declared.acts.Deed.TheVariants as deed
 use Rattle.ph_book.specs.History.{Happening, and_then, doings_after, doings_of, effect_after, finish_effect, happening_of, opening_row, park_effect, past_of, rows_after, rows_of, time_after, time_of, view_of}
 use Rattle.ph_book.specs.Legal.{AreAllowed, EndsOwn, IsAllowed, IsLegal, is_full_after, raw_weight, used_after, weight_after}
+use Rattle.ph_book.specs.Stays.{doings_more}
 use Rattle.ph_book.proofs.EffectLemmas.{Comes, Stands, effect_comes, finish_ends, park_ends}
-use Rattle.ph_book.proofs.HistoryLemmas.{doings_more, rows_more, time_more}
+use Rattle.ph_book.proofs.HistoryLemmas.{rows_more, time_more}
 
 -- the view after what happened
 abbrev pub view_after : Setup → List Happening → ViewState

@@ -2,10 +2,10 @@
 use Rattle.std.specs.Prelude.{◌≡◌, ◌≢◌, ℕ, ◌==◌, ◌||◌, Bool, true, List, [], ◌∷◌, IsTrue}
 use Rattle.ph_http.specs.declared.message.Reply.{Reply}
 use Rattle.ph_http.specs.Replies.{is_status}
-use Rattle.ph_book.specs.declared.acts.Act.{Act}
-use Rattle.ph_book.specs.declared.acts.Act.TheVariants as act
 use Rattle.ph_book.specs.declared.acts.Answer.{Answer}
 use Rattle.ph_book.specs.declared.acts.Answer.TheVariants as answer
+use Rattle.ph_book.specs.declared.acts.Deed.{Deed}
+use Rattle.ph_book.specs.declared.acts.Deed.TheVariants as deed
 use Rattle.ph_book.specs.Replies.{Said, Replies, Waits, Silence, park_reply}
 
 -- the answer says this, to the entry of a caller at a place: a ticket is of the run with the entry's place as its number
@@ -48,9 +48,9 @@ IsRuled (answer.Reply reply) = is_ruled reply.status ≡ true
 IsRuled (answer.Wait ticket) = ⊥
 IsRuled answer.Done = ⊥
 
--- what the answers to an act are: a call is answered by a reply or waits, a ruling by the payment intent or the decline, a park by the reply of its reason, and a moment by none
-abbrev pub IsAnswerTo : Act → Answer → Type 0
-IsAnswerTo (act.Call raw) given = IsNoPark given
-IsAnswerTo (act.Finish ticket ruling) given = IsRuled given
-IsAnswerTo (act.Park ticket why) given = given ≡ answer.Reply (park_reply why)
-IsAnswerTo (act.Tick moment) given = given ≡ answer.Done
+-- what the answers to a deed are: a call is answered by a reply or waits, a ruling by the payment intent or the decline, a park by the reply of its reason, and a moment by none
+abbrev pub IsAnswerTo : Deed → Answer → Type 0
+IsAnswerTo (deed.Call raw) given = IsNoPark given
+IsAnswerTo (deed.Finish run ruling) given = IsRuled given
+IsAnswerTo (deed.Park run why) given = given ≡ answer.Reply (park_reply why)
+IsAnswerTo (deed.Tick moment) given = given ≡ answer.Done

@@ -6,8 +6,14 @@ pub mod Runs
 pub mod History
 pub mod Legal
 pub mod Tickets
+pub mod Queries
+pub mod Hosts
 pub mod Spares
 pub mod Stores
 pub mod Called
 pub mod State
 pub mod Laws
+pub mod Callers
+pub mod Stays
+pub mod Plain
+pub mod OwnRuns

@@ -48,3 +48,10 @@ pub enum Answer {
     /// A moment of the clock was entered: nothing is said to it.
     Done,
 }
+
+/// What a book is asked of its history. The answer is yes or no.
+#[derive(Clone, Copy, Debug, PartialEq, Eq)]
+pub enum Query {
+    /// Whether an attempt waits to be taken up again.
+    AnyParked,
+}

@@ -10,11 +10,14 @@ ghost use Rattle.ph_book.specs.Answers.{HasStatus, IsAnswerTo, IsNoPark, Says, i
 ghost use Rattle.ph_book.specs.Called.{IsCalled, Steps};
 ghost use Rattle.ph_book.specs.Entries.{IsGranted, IsWithinClock, call_entry, deed_of, entry_of, finish_entry, park_entry, tick_entry};
 ghost use Rattle.ph_book.specs.History.{effect_to, opening_row, replies_of, said_to, time_of};
+ghost use Rattle.ph_book.specs.Queries.{Sees};
 ghost use Rattle.ph_book.specs.Replies.{Replies, Silence, park_reply};
+ghost use Rattle.ph_book.specs.Hosts.{IsLawful};
 ghost use Rattle.ph_book.specs.Legal.{is_full, IsLegal};
+ghost use Rattle.ph_book.specs.OwnRuns.{RunsAfter};
 ghost use Rattle.ph_book.specs.Tickets.{HandsOut, Holds, SpendsOwn};
 
-use crate::acts::{Act, Answer, Deed, Entry};
+use crate::acts::{Act, Answer, Deed, Entry, Query};
 use crate::calls::{Called, called_by};
 use crate::endings::{Ending, parked_row, settled};
 use crate::room::{later, one_less, push_row, take_room};
@@ -100,14 +103,14 @@ impl Book {
 
     /// Enters an act of a caller as one entry and answers it, or hands it back and changes nothing. A park is never
     /// refused, and takes no memory.
-    #[tactic(auto, using(crate::proofs::HistoryLemmas::replies_grow))]
+    #[tactic(auto, using(crate::proofs::HistoryLemmas::replies_grow, crate::proofs::HistoryLemmas::lawful_entered, crate::proofs::OwnRunLemmas::runs_entered))]
     pub fn apply(&mut self, caller: u64, act: Act) -> Result<Answer, (Act, Refused)>
         requires caller { caller < 2 ^ 62 }
         requires own { SpendsOwn self.old.setup self.old.history caller act }
         requires clock { IsWithinClock (deed_of act) }
         ensures entry { OnOk result (self.new ≡ entered self.old (entry_of caller act)) }
         ensures answer { IfOk result (λ answer. Says (length self.old.history + 1) caller (said_to self.old.setup self.old.history (entry_of caller act)) answer) }
-        ensures kind { IfOk result (λ answer. IsAnswerTo act answer) }
+        ensures kind { IfOk result (λ answer. IsAnswerTo (deed_of act) answer) }
         ensures status { IfOk result (λ answer. HasStatus answer) }
         ensures live { IfOk result (λ answer. HandsOut self.new.setup self.new.history caller answer) }
         ensures replies { IfOk result (λ answer. replies_of self.new.setup self.new.history ≡ replies_of self.old.setup self.old.history ++ replies_in answer) }
@@ -115,7 +118,10 @@ impl Book {
         ensures full { IfErr result (λ refused. (refused.1 ≡ Refused.Full) ↔ IsTrue (is_full self.old.setup self.old.history (deed_of act))) }
         ensures room { OnOk result (is_full self.old.setup self.old.history (deed_of act) ≡ false) }
         ensures granted { OnErr result (IsGranted act → ⊥) }
+        ensures lawful { IsLawful self.new.setup self.new.history }
+        ensures runs { OnOk result (RunsAfter self.old.setup self.old.history (entry_of caller act)) }
     {
+        self.lawful();
         match act {
             Act::Call(raw) => match self.call(caller, raw) {
                 Ok(answer) => Ok(answer),
@@ -131,6 +137,13 @@ impl Book {
                 Err(refused) => Err((Act::Tick(moment), refused)),
             },
         }
+    }
+
+    // Its history is legal.
+    fn lawful(&self)
+        ensures { IsLawful self.now.setup self.now.history }
+    {
+        few_entries(self.setup.entries);
     }
 
     // Enters a call.
@@ -346,6 +359,15 @@ impl Book {
         ensures legal { IsLegal self.now.setup self.now.history }
     {
         self.entries.as_slice()
+    }
+
+    /// Answers a query of its history, and changes nothing.
+    pub fn look(&self, query: &Query) -> bool
+        ensures { Sees self.now.setup self.now.history query.now result }
+    {
+        match query {
+            Query::AnyParked => self.attempts.parked().is_some(),
+        }
     }
 
     /// The setup that it was made with.

@@ -5,7 +5,9 @@ mod acts;
 mod book;
 mod calls;
 mod endings;
+mod hosted;
 mod laws;
+mod object;
 mod replies;
 mod room;
 mod setup;
@@ -13,8 +15,9 @@ mod spares;
 mod store;
 mod weights;
 
-pub use acts::{Act, Answer, Deed, Entry};
+pub use acts::{Act, Answer, Deed, Entry, Query};
 pub use book::Book;
+pub use hosted::{Hosted, Kept};
 pub use laws::{
     all_but_the_last_were_challenged, amounts_are_sums, balances_are_sums, disputes_move_once,
     history_is_legal, ids_differ, live_runs_are_shown, processing_has_one_attempt,

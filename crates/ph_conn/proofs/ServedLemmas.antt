@@ -98,14 +98,14 @@ output-left {limit} {given} {entered} {replies} {text} {left} done items tail =
 -- ---- a request more
 
 -- what a session has served and written with a request that it answered, and what may follow it
-pub record Took (limit : ℕ) (given : List Item) (entered : List Raw) (replies : List Reply) (text : List ℕ) (raw : Raw) (continues : Bool) (n : ℕ) : Type 0 where
+pub record TookText (limit : ℕ) (given : List Item) (entered : List Raw) (replies : List Reply) (text : List ℕ) (raw : Raw) (continues : Bool) (n : ℕ) : Type 0 where
   pub serves : (tail : List Item) → served (given ++ tail) limit ≡ entered ++ served (request_items raw continues ++ tail) (suc n)
   pub halts : (tail : List Item) → halt_of (given ++ tail) limit ≡ halt_of (request_items raw continues ++ tail) (suc n)
   pub writes : (tail : List Item) (more : List Reply) → replies_text (given ++ tail) limit (replies ++ more) ≡ text ++ cond raw.close [] (replies_text tail n more)
   pub waits : (tail : List Item) (more : List Reply) → next_line (given ++ tail) limit (replies ++ more) ≡ cond raw.close [] (next_line tail n more)
 
 pub took : {limit : ℕ} {given : List Item} {entered : List Raw} {replies : List Reply} {text : List ℕ} {n : ℕ} (raw : Raw) (continues : Bool) (reply : Reply) → Serves limit given entered replies text (suc n)
-    → Took limit (given ++ request_items raw continues) entered (replies ++ reply ∷ []) (text ++ reply_text continues (raw.close || n == 0) reply) raw continues n
+    → TookText limit (given ++ request_items raw continues) entered (replies ++ reply ∷ []) (text ++ reply_text continues (raw.close || n == 0) reply) raw continues n
 took {limit} {given} {entered} {replies} {text} {n} raw continues reply done =
     let request = request_items raw continues in
     record {
@@ -124,7 +124,7 @@ took {limit} {given} {entered} {replies} {text} {n} raw continues reply done =
 
 -- behind a request that doesn't ask for the end
 pub goes_further : {limit : ℕ} {given : List Item} {entered : List Raw} {replies : List Reply} {text : List ℕ} {raw : Raw} {continues : Bool} {n : ℕ}
-    → Took limit given entered replies text raw continues n → raw.close ≡ false → Serves limit given (entered ++ raw ∷ []) replies text n
+    → TookText limit given entered replies text raw continues n → raw.close ≡ false → Serves limit given (entered ++ raw ∷ []) replies text n
 goes_further {limit} {given} {entered} {replies} {text} {raw} {continues} {n} t stays = record {
   serves = λ tail. t.serves tail ∙ ap (λ (raws : List Raw). entered ++ raws) (served-request raw continues tail n stays) ∙ sym (append_assoc entered (raw ∷ []) (served tail n));
   halts = λ tail. t.halts tail ∙ halt-request raw continues tail n stays;
@@ -134,7 +134,7 @@ goes_further {limit} {given} {entered} {replies} {text} {raw} {continues} {n} t 
 
 -- behind a request that asks for the end nothing is served or written: it is as at a limit
 pub goes_no_further : {limit : ℕ} {given : List Item} {entered : List Raw} {replies : List Reply} {text : List ℕ} {raw : Raw} {continues : Bool} {n : ℕ}
-    → Took limit given entered replies text raw continues n → raw.close ≡ true → (tail : List Item)
+    → TookText limit given entered replies text raw continues n → raw.close ≡ true → (tail : List Item)
     → (served (given ++ tail) limit ≡ entered ++ raw ∷ []) × (halt_of (given ++ tail) limit ≡ Stopped stop.Asked)
     × (replies_text (given ++ tail) limit replies ≡ text) × (next_line (given ++ tail) limit replies ≡ [])
 goes_no_further {limit} {given} {entered} {replies} {text} {raw} {continues} {n} t closes tail = (

@@ -20,20 +20,21 @@ use Rattle.ph_errors.specs.declared.fixed.Fixed.{Fixed}
 use Rattle.ph_errors.specs.declared.fixed.Fixed.TheVariants as fixed
 use Rattle.ph_errors.specs.Fixed.{closing_of}
 use Rattle.ph_base.specs.declared.acquirer.Why.TheVariants as why
-use Rattle.ph_bank.specs.Links.{and_asks}
-use Rattle.ph_book.specs.Entries.{call_entry}
-use Rattle.ph_book.specs.History.{replies_of, said_to}
+use Rattle.ph_book.specs.declared.hosted.Kept.{Kept}
+use Rattle.ph_book.specs.declared.hosted.Kept.TheVariants as kept
 use Rattle.ph_book.specs.Legal.{IsLegal}
 use Rattle.ph_book.specs.Replies.{park_reply}
-use Rattle.ph_book.specs.State.{BookState}
-use Rattle.ph_conn.specs.Answers.{IsFullFor, Entered, Answers}
-use Rattle.ph_conn.specs.Desks.{Desk, Counted, live_in}
-use Rattle.ph_conn.specs.Parts.{Run, Part, requests_of, entries_from, Follows, AllFollow, AreReplies, asks_of, over_runs, failures, refusals, grants, drives, is_out, AllHadMemory}
+use Rattle.ph_conn.specs.Answers.{BreaksFor, IsFullFor, Idles, Took, Answers}
+use Rattle.ph_conn.specs.Fronts.{Known, entries_in}
+use Rattle.ph_conn.specs.Means.{Means}
+use Rattle.ph_conn.specs.Parts.{Part, requests_of, is_out, mark_of, IsWell}
 use Rattle.ph_conn.specs.Reads.{Fetches, request_items, told_end}
 use Rattle.ph_conn.specs.Sends.{Parts, PartsOut, Closes, Sends}
 use Rattle.ph_conn.specs.Served.{Halt, Stopped, AtCut, Open, served, halt_of, replies_text, next_line, output}
 use Rattle.ph_conn.specs.Session as session
-use Rattle.ph_conn.specs.Session.{Session, NextIsFull, EndsOut, RunsOut, Replying, Refusing, Filling, RunningOut}
+use Rattle.ph_conn.specs.Session.{Session, SoloSession, NextIsFull, EndsOut, RunsOut, Replying, Refusing, Filling, RunningOut, Out, NoMore}
+use Rattle.ph_conn.specs.Steps as stepping
+use Rattle.ph_conn.specs.Steps.{Steps, ClosesKnown, closed_as, closes_if, is_last_of}
 use Rattle.ph_conn.specs.Texts.{line_for, tail_text, last_words}
 use Rattle.ph_conn.specs.declared.answers.Outcome.{Outcome}
 use Rattle.ph_conn.specs.declared.answers.Outcome.TheVariants as outcome
@@ -41,112 +42,17 @@ use Rattle.ph_conn.specs.declared.endings.Closed.{Closed}
 use Rattle.ph_conn.specs.declared.endings.Stop.TheVariants as stop
 use Rattle.ph_conn.specs.declared.endings.TalkError.{TalkError}
 use Rattle.ph_conn.specs.declared.endings.TalkError.TheVariants as fault
+use Rattle.ph_conn.specs.declared.reads.Fetched.{Fetched}
 use Rattle.ph_conn.specs.declared.reads.Fetched.TheVariants as fetched
 use Rattle.ph_conn.proofs.ItemFacts.{leads_then}
-use Rattle.ph_conn.proofs.PartLemmas.{history-push, follow-push, requests-push, front-push, replies-push, and_asks-none, asked-push, counted-push, counted-none, memory-push, completes}
-use Rattle.ph_conn.proofs.ServedLemmas.{Serves, serves-nothing, written, line-left, output-left, line-waiting, served-with, no-replies, reply_text, Took, took, goes_further, goes_no_further}
-
--- ---- what a session did with its desk
-
--- the requests of these parts were entered, and what their runs did with the link and the patience
-pub record Work (desk0 desk1 : Desk) (parts : List Part) (replies : List Reply) : Type 0 where
-  pub setup : desk1.book.setup ≡ desk0.book.setup
-  pub one_history : IsLegal desk1.book.setup desk1.book.history
-  pub entered_once : desk1.book.history ≡ desk0.book.history ++ entries_from (length desk0.book.history + 1) parts
-  pub followed : AllFollow desk0.book.setup desk0.book.history parts
-  pub answered : replies_of desk1.book.setup desk1.book.history ≡ replies_of desk0.book.setup desk0.book.history ++ replies
-  pub replied : AreReplies parts replies
-  pub asked : desk1.link.asked ≡ and_asks desk0.link.asked (asks_of parts)
-  pub counted : Counted desk0 desk1 (over_runs failures parts) (over_runs refusals parts) (over_runs grants parts) (over_runs drives parts)
-  pub nothing_left_live : live_in desk1.book ≡ live_in desk0.book
-
-work-nothing : (desk : Desk) → IsLegal desk.book.setup desk.book.history → Work desk desk [] []
-work-nothing desk legal = record {
-  setup = refl;
-  one_history = legal;
-  entered_once = sym (append-nil desk.book.history);
-  followed = tt;
-  answered = sym (append-nil (replies_of desk.book.setup desk.book.history));
-  replied = tt;
-  asked = sym (and_asks-none desk.link.asked);
-  counted = counted-none desk.book desk.book desk.link desk.counts;
-  nothing_left_live = refl;
-}
-
--- a request and what followed its call
-abbrev pub part_of : Raw → Option Run → Part
-part_of raw run = record { raw = raw; run = run }
-
-work-push : {desk0 desk1 desk2 : Desk} {parts : List Part} {replies : List Reply} {raw : Raw} {run : Option Run} {reply : Reply}
-    → Work desk0 desk1 parts replies → Entered desk1 desk2 raw run reply → Work desk0 desk2 (parts ++ part_of raw run ∷ []) (replies ++ reply ∷ [])
-work-push {desk0} {desk1} {desk2} {parts} {replies} {raw} {run} {reply} w e = record {
-  setup = ap (λ (b : BookState). b.setup) e.entered_once ∙ w.setup;
-  one_history = e.one_history;
-  entered_once = history-push desk0.book.history desk1.book.history desk2.book.history parts (part_of raw run) w.entered_once
-      (ap (λ (b : BookState). b.history) e.entered_once);
-  followed = follow-push desk0.book.setup desk0.book.history desk1.book.history parts (part_of raw run) w.followed w.entered_once
-      (subst (λ setup. Follows (said_to setup desk1.book.history (call_entry 0 raw)) run) w.setup e.follows);
-  answered = e.answered ∙ ap (λ rs. rs ++ reply ∷ []) w.answered ∙ append_assoc (replies_of desk0.book.setup desk0.book.history) replies (reply ∷ []);
-  replied = replies-push parts replies (part_of raw run) reply w.replied e.replied;
-  asked = asked-push desk0.link.asked desk1.link.asked desk2.link.asked parts (part_of raw run) w.asked e.asked;
-  counted = counted-push desk0 desk1 desk2 parts (part_of raw run) w.counted e.counted;
-  nothing_left_live = e.nothing_left_live ∙ w.nothing_left_live;
-}
-
--- none of the runs was given up for want of memory
-pub record Grown (desk0 desk1 : Desk) (parts : List Part) (replies : List Reply) : Type 0 where
-  pub work : Work desk0 desk1 parts replies
-  pub had_memory : AllHadMemory parts
-
-grown-nothing : (desk : Desk) → IsLegal desk.book.setup desk.book.history → Grown desk desk [] []
-grown-nothing desk legal = record { work = work-nothing desk legal; had_memory = tt }
-
-grown-push : {desk0 desk1 desk2 : Desk} {parts : List Part} {replies : List Reply} {raw : Raw} {run : Option Run} {reply : Reply}
-    → Grown desk0 desk1 parts replies → Entered desk1 desk2 raw run reply → is_out run ≡ false → Grown desk0 desk2 (parts ++ part_of raw run ∷ []) (replies ++ reply ∷ [])
-grown-push {parts = parts} {raw = raw} {run = run} g e had = record {
-  work = work-push g.work e;
-  had_memory = memory-push parts (part_of raw run) g.had_memory had;
-}
-
--- a session, from its work and what was read and written
-session_with : {result : Result Closed TalkError} {limit : ℕ} {desk0 desk1 : Desk} {input0 input1 : SourceState} {output0 output1 : SinkState} {parts : List Part} {replies : List Reply} {items : List Item}
-    → Work desk0 desk1 parts replies → (bytes : List ℕ) → session.Reads result input0 input1 bytes → items ≡ items_of bytes (session.has_ended result)
-    → session.Enters result desk1.book (served items limit) (requests_of parts) → session.Writes result items limit desk1.book parts replies output0 output1
-    → session.StopsAs result (halt_of items limit) (length parts) → Session result limit desk0 desk1 input0 input1 output0 output1
-session_with {result} {limit} {desk0} {desk1} {input0} {input1} {output0} {output1} {parts} {replies} {items} w bytes taken items_are which_requests written stopped = record {
-  bytes = bytes;
-  items = items;
-  parts = parts;
-  replies = replies;
-  taken = taken;
-  items_are = items_are;
-  setup = w.setup;
-  one_history = w.one_history;
-  entered_once = w.entered_once;
-  followed = w.followed;
-  which_requests = which_requests;
-  answered = w.answered;
-  replied = w.replied;
-  written = written;
-  asked = w.asked;
-  counted = w.counted;
-  complete = completes desk0 desk1 parts replies w.replied w.counted;
-  nothing_left_live = w.nothing_left_live;
-  stopped = stopped;
-}
-
--- one whose runs all had memory
-session_of : {result : Result Closed TalkError} {limit : ℕ} {desk0 desk1 : Desk} {input0 input1 : SourceState} {output0 output1 : SinkState} {parts : List Part} {replies : List Reply} {items : List Item}
-    → Grown desk0 desk1 parts replies → (bytes : List ℕ) → session.Reads result input0 input1 bytes → items ≡ items_of bytes (session.has_ended result)
-    → session.Enters result desk1.book (served items limit) (requests_of parts) → session.WritesReplies result items limit desk1.book (requests_of parts) replies output0 output1
-    → session.StopsAs result (halt_of items limit) (length parts) → Session result limit desk0 desk1 input0 input1 output0 output1
-session_of g bytes taken items_are which_requests written stopped =
-    session_with g.work bytes taken items_are which_requests (inl (g.had_memory, written)) stopped
+use Rattle.ph_conn.proofs.PartLemmas.{requests-push, front-push}
+use Rattle.ph_conn.proofs.ServedLemmas.{Serves, serves-nothing, written, line-left, output-left, line-waiting, served-with, no-replies, reply_text, TookText, took, goes_further, goes_no_further}
+use Rattle.ph_conn.proofs.WorkLemmas.{Grown, grown-nothing, grown-push, grown-saw, work-push, session_with, session_of}
 
 -- ---- the state of a session between two requests
 
 -- i requests were answered, and so many are left
-pub record Serving (limit i : ℕ) (talk : TalkState) (desk0 desk1 : Desk) (input0 input1 : SourceState) (output0 output1 : SinkState) : Type 0 where
+pub record Serving (limit i : ℕ) (talk : TalkState) (means0 means1 : Means) (input0 input1 : SourceState) (output0 output1 : SinkState) : Type 0 where
   pub bytes : List ℕ
   pub given : List Item
   pub parts : List Part
@@ -156,14 +62,14 @@ pub record Serving (limit i : ℕ) (talk : TalkState) (desk0 desk1 : Desk) (inpu
   pub moved : Moves input0 input1 bytes
   pub led : Leads (talk_of bytes false) given talk
   pub still : talk.ended ≡ false
-  pub grown_by : Grown desk0 desk1 parts replies
+  pub grown_by : Grown means0 means1 parts replies
   pub count : length parts ≡ i
   pub left_is : i + left ≡ limit
   pub done : Serves limit given (requests_of parts) replies text left
   pub wrote : Takes output0 output1 text
 
-pub begins : (limit : ℕ) (desk : Desk) (input : SourceState) (output : SinkState) → IsLegal desk.book.setup desk.book.history → Serving limit 0 (talk_of [] false) desk desk input input output output
-begins limit desk input output legal = record {
+pub begins : (limit : ℕ) (means : Means) (input : SourceState) (output : SinkState) → IsLegal means.known.setup (entries_in means.known.front) → Serving limit 0 (talk_of [] false) means means input input output output
+begins limit means input output legal = record {
   bytes = [];
   given = [];
   parts = [];
@@ -173,7 +79,7 @@ begins limit desk input output legal = record {
   moved = moves_nothing input;
   led = refl;
   still = refl;
-  grown_by = grown-nothing desk legal;
+  grown_by = grown-nothing means legal;
   count = refl;
   left_is = omega arith;
   done = serves-nothing limit;
@@ -250,22 +156,22 @@ nothing_behind {text = text} e = e.text_is None ∙ append-nil text
 last_item : (rest : List Item) (left n : ℕ) (halt : Halt) → left ≡ suc n → IsLast rest (suc n) halt → IsLast rest left halt
 last_item rest left n halt some last = subst (λ (k : ℕ). IsLast rest k halt) (sym some) last
 
-pub stops_end : {limit i : ℕ} {talk new : TalkState} {desk0 desk1 : Desk} {input0 input1 input2 : SourceState} {output0 output1 : SinkState} (closed : Closed)
-    → closed ≡ record { replies = i; stop = stop.End } → i < limit → Serving limit i talk desk0 desk1 input0 input1 output0 output1 → Fetches talk new fetched.End input1 input2
-    → Session (Ok closed) limit desk0 desk1 input0 input2 output0 output1
-stops_end {limit} {i} {talk} {new} {desk0} {desk1} {input0} {input1} {input2} {output0} {output1} closed is below s fetches =
+pub stops_end : {limit i : ℕ} {talk new : TalkState} {means0 means1 : Means} {input0 input1 input2 : SourceState} {output0 output1 : SinkState} (closed : Closed)
+    → closed ≡ record { replies = i; stop = stop.End } → i < limit → Serving limit i talk means0 means1 input0 input1 output0 output1 → Fetches talk new fetched.End input1 input2
+    → Session (Ok closed) limit means0 means1 input0 input2 output0 output1
+stops_end {limit} {i} {talk} {new} {means0} {means1} {input0} {input1} {input2} {output0} {output1} closed is below s fetches =
     let some = some_left i s.left limit s.left_is below in
     let last : IsLast (End ∷ []) s.left (Stopped stop.End) = last_item (End ∷ []) s.left some.0 (Stopped stop.End) some.1 (record { none_served = refl; no_line = refl; halt_is = refl }) in
     let e = exit (End ∷ []) s.done last in
     let are : items_of (s.bytes ++ fetches.bytes) true ≡ s.given ++ End ∷ [] =
     items_so_far s.bytes fetches.bytes s.given talk true s.led ∙ ap (λ (items : List Item). s.given ++ items) (items_last (told_end (grown talk fetches.bytes false)) (told_end (grown talk fetches.bytes false)) End fetches.item refl) in
-    subst (λ (c : Closed). Session (Ok c) limit desk0 desk1 input0 input2 output0 output1) (sym is)
+    subst (λ (c : Closed). Session (Ok c) limit means0 means1 input0 input2 output0 output1) (sym is)
     (session_of s.grown_by (s.bytes ++ fetches.bytes) (ends_later s.moved fetches.read) (sym are) e.all_entered (subst (Takes output0 output1) (sym (nothing_behind e)) s.wrote) (e.halt_is, sym s.count))
 
-pub stops_cut : {limit i : ℕ} {talk new : TalkState} {desk0 desk1 : Desk} {input0 input1 input2 : SourceState} {output0 output1 : SinkState} → i < limit
-    → Serving limit i talk desk0 desk1 input0 input1 output0 output1 → Fetches talk new fetched.Cut input1 input2
-    → Session (Err fault.Cut) limit desk0 desk1 input0 input2 output0 output1
-stops_cut {limit} {i} {talk} {new} {desk0} {desk1} {input0} {input1} {input2} {output0} {output1} below s fetches =
+pub stops_cut : {limit i : ℕ} {talk new : TalkState} {means0 means1 : Means} {input0 input1 input2 : SourceState} {output0 output1 : SinkState} → i < limit
+    → Serving limit i talk means0 means1 input0 input1 output0 output1 → Fetches talk new fetched.Cut input1 input2
+    → Session (Err fault.Cut) limit means0 means1 input0 input2 output0 output1
+stops_cut {limit} {i} {talk} {new} {means0} {means1} {input0} {input1} {input2} {output0} {output1} below s fetches =
     let some = some_left i s.left limit s.left_is below in
     let last : IsLast (Cut ∷ []) s.left AtCut = last_item (Cut ∷ []) s.left some.0 AtCut some.1 (record { none_served = refl; no_line = refl; halt_is = refl }) in
     let e = exit (Cut ∷ []) s.done last in
@@ -273,10 +179,10 @@ stops_cut {limit} {i} {talk} {new} {desk0} {desk1} {input0} {input1} {input2} {o
     items_so_far s.bytes fetches.bytes s.given talk true s.led ∙ ap (λ (items : List Item). s.given ++ items) (items_last (told_end (grown talk fetches.bytes false)) (told_end (grown talk fetches.bytes false)) Cut fetches.item refl) in
     session_of s.grown_by (s.bytes ++ fetches.bytes) (ends_later s.moved fetches.read) (sym are) e.all_entered (subst (Takes output0 output1) (sym (nothing_behind e)) s.wrote) e.halt_is
 
-pub stops_read_fault : {limit i : ℕ} {talk new : TalkState} {desk0 desk1 : Desk} {input0 input1 input2 : SourceState} {output0 output1 : SinkState} → i < limit
-    → Serving limit i talk desk0 desk1 input0 input1 output0 output1 → Fetches talk new fetched.ReadFault input1 input2
-    → Session (Err fault.ReadFault) limit desk0 desk1 input0 input2 output0 output1
-stops_read_fault {limit} {i} {talk} {new} {desk0} {desk1} {input0} {input1} {input2} {output0} {output1} below s fetches =
+pub stops_read_fault : {limit i : ℕ} {talk new : TalkState} {means0 means1 : Means} {input0 input1 input2 : SourceState} {output0 output1 : SinkState} → i < limit
+    → Serving limit i talk means0 means1 input0 input1 output0 output1 → Fetches talk new fetched.ReadFault input1 input2
+    → Session (Err fault.ReadFault) limit means0 means1 input0 input2 output0 output1
+stops_read_fault {limit} {i} {talk} {new} {means0} {means1} {input0} {input1} {input2} {output0} {output1} below s fetches =
     let some = some_left i s.left limit s.left_is below in
     let last : IsLast [] s.left Open = last_item [] s.left some.0 Open some.1 (record { none_served = refl; no_line = refl; halt_is = refl }) in
     let e = exit [] s.done last in
@@ -284,16 +190,16 @@ stops_read_fault {limit} {i} {talk} {new} {desk0} {desk1} {input0} {input1} {inp
     items_so_far s.bytes fetches.bytes s.given talk false s.led ∙ ap (λ (items : List Item). s.given ++ items) (items_none (grown talk fetches.bytes false) fetches.item) in
     session_of s.grown_by (s.bytes ++ fetches.bytes) (fails_later s.moved fetches.read) (sym are) e.all_entered (subst (Takes output0 output1) (sym (nothing_behind e)) s.wrote) e.halt_is
 
-pub stops_limit : {limit : ℕ} {talk : TalkState} {desk0 desk1 : Desk} {input0 input1 : SourceState} {output0 output1 : SinkState} (i : ℕ) (closed : Closed)
-    → closed ≡ record { replies = limit; stop = stop.Limit } → limit ≤ i → i ≤ limit → Serving limit i talk desk0 desk1 input0 input1 output0 output1
-    → Session (Ok closed) limit desk0 desk1 input0 input1 output0 output1
-stops_limit {limit} {talk} {desk0} {desk1} {input0} {input1} {output0} {output1} i closed is reached within s =
+pub stops_limit : {limit : ℕ} {talk : TalkState} {means0 means1 : Means} {input0 input1 : SourceState} {output0 output1 : SinkState} (i : ℕ) (closed : Closed)
+    → closed ≡ record { replies = limit; stop = stop.Limit } → limit ≤ i → i ≤ limit → Serving limit i talk means0 means1 input0 input1 output0 output1
+    → Session (Ok closed) limit means0 means1 input0 input1 output0 output1
+stops_limit {limit} {talk} {means0} {means1} {input0} {input1} {output0} {output1} i closed is reached within s =
     let rest = items_from talk in
     let none : s.left ≡ 0 = (let sum = s.left_is in omega arith) in
     let last : IsLast rest s.left (Stopped stop.Limit) = subst (λ (k : ℕ). IsLast rest k (Stopped stop.Limit)) (sym none) (record { none_served = refl; no_line = refl; halt_is = refl }) in
     let e = exit rest s.done last in
     let all : limit ≡ length s.parts = (let count = s.count in omega arith) in
-    subst (λ (c : Closed). Session (Ok c) limit desk0 desk1 input0 input1 output0 output1) (sym is)
+    subst (λ (c : Closed). Session (Ok c) limit means0 means1 input0 input1 output0 output1) (sym is)
     (session_of s.grown_by s.bytes s.moved (sym (items_lead (talk_of s.bytes false) talk s.given s.led)) e.all_entered (subst (Takes output0 output1) (sym (nothing_behind e)) s.wrote) (e.halt_is, all))
 
 -- ---- closing replies
@@ -302,10 +208,10 @@ stops_limit {limit} {talk} {desk0} {desk1} {input0} {input1} {output0} {output1}
 pub closing_status : (talk after : TalkState) (status : ℕ) → first talk ≡ Has (Close status) after → is_some (closing_of status) ≡ true
 closing_status = close_passes (λ status. is_some (closing_of status)) (record { malformed = refl; too_large = refl; head_too_large = refl; not_implemented = refl; other_version = refl })
 
-pub stops_close : {limit i : ℕ} {talk new : TalkState} {desk0 desk1 : Desk} {input0 input1 input2 : SourceState} {output0 output1 output2 : SinkState} (status : ℕ) (result : Result Closed TalkError) → i < limit
-    → Serving limit i talk desk0 desk1 input0 input1 output0 output1 → Fetches talk new (fetched.Close status) input1 input2 → Closes status i result output1 output2
-    → Session result limit desk0 desk1 input0 input2 output0 output2
-stops_close {limit} {i} {talk} {new} {desk0} {desk1} {input0} {input1} {input2} {output0} {output1} {output2} status result below s fetches closes = at result closes
+pub stops_close : {limit i : ℕ} {talk new : TalkState} {means0 means1 : Means} {input0 input1 input2 : SourceState} {output0 output1 output2 : SinkState} (status : ℕ) (result : Result Closed TalkError) → i < limit
+    → Serving limit i talk means0 means1 input0 input1 output0 output1 → Fetches talk new (fetched.Close status) input1 input2 → Closes status i result output1 output2
+    → Session result limit means0 means1 input0 input2 output0 output2
+stops_close {limit} {i} {talk} {new} {means0} {means1} {input0} {input1} {input2} {output0} {output1} {output2} status result below s fetches closes = at result closes
   where
     rest : List Item
     rest = Close status ∷ []
@@ -318,8 +224,8 @@ stops_close {limit} {i} {talk} {new} {desk0} {desk1} {input0} {input1} {input2} 
     are = sym (items_so_far s.bytes fetches.bytes s.given talk false s.led
         ∙ ap (λ (items : List Item). s.given ++ items) (items_last (grown talk fetches.bytes false) (grown talk fetches.bytes false) (Close status) fetches.item refl))
 
-    at : (result : Result Closed TalkError) → Closes status i result output1 output2 → Session result limit desk0 desk1 input0 input2 output0 output2
-    at (Ok closed) closes = subst (λ (c : Closed). Session (Ok c) limit desk0 desk1 input0 input2 output0 output2) (sym closes.0)
+    at : (result : Result Closed TalkError) → Closes status i result output1 output2 → Session result limit means0 means1 input0 input2 output0 output2
+    at (Ok closed) closes = subst (λ (c : Closed). Session (Ok c) limit means0 means1 input0 input2 output0 output2) (sym closes.0)
         (session_of s.grown_by (s.bytes ++ fetches.bytes) (moves_twice s.moved fetches.read) are e.all_entered
         (subst (Takes output0 output2) (sym (e.text_is (closing_of status))) (takes_twice s.wrote closes.1)) (e.halt_is, sym s.count))
     at (Err fault.WriteFault) closes = session_of s.grown_by (s.bytes ++ fetches.bytes) (inl (moves_twice s.moved fetches.read)) are
@@ -329,13 +235,14 @@ stops_close {limit} {i} {talk} {new} {desk0} {desk1} {input0} {input1} {input2} 
     at (Err fault.Cut) closes = absurd closes
     at (Err fault.NoMemory) closes = absurd closes
     at (Err fault.Full) closes = absurd closes
+    at (Err fault.KeepFault) closes = absurd closes
 
 -- ---- want of memory while the next item is read
 
-pub stops_out : {limit i : ℕ} {talk new : TalkState} {desk0 desk1 : Desk} {input0 input1 input2 : SourceState} {output0 output1 output2 : SinkState} (why : TalkError)
-    → Serving limit i talk desk0 desk1 input0 input1 output0 output1 → Fetches talk new fetched.NoMemory input1 input2 → Parts fixed.NoMemory fault.NoMemory why output1 output2
-    → Session (Err why) limit desk0 desk1 input0 input2 output0 output2
-stops_out {limit} {i} {talk} {new} {desk0} {desk1} {input0} {input1} {input2} {output0} {output1} {output2} why s fetches parts = at parts
+pub stops_out : {limit i : ℕ} {talk new : TalkState} {means0 means1 : Means} {input0 input1 input2 : SourceState} {output0 output1 output2 : SinkState} (why : TalkError)
+    → Serving limit i talk means0 means1 input0 input1 output0 output1 → Fetches talk new fetched.NoMemory input1 input2 → Parts fixed.NoMemory fault.NoMemory why output1 output2
+    → Session (Err why) limit means0 means1 input0 input2 output0 output2
+stops_out {limit} {i} {talk} {new} {means0} {means1} {input0} {input1} {input2} {output0} {output1} {output2} why s fetches parts = at parts
   where
     rest : List Item
     rest = items_from (grown talk fetches.bytes false)
@@ -352,16 +259,16 @@ stops_out {limit} {i} {talk} {new} {desk0} {desk1} {input0} {input1} {input2} {o
     runs : RunsOut items limit s.replies (s.text ++ last_words fixed.NoMemory)
     runs = record { line = []; line_is = inl refl; text_is = ap (λ told. told ++ last_words fixed.NoMemory) (sym (append-nil s.text) ∙ ap (λ told. told ++ []) (sym (written s.done rest))) }
 
-    at : Parts fixed.NoMemory fault.NoMemory why output1 output2 → Session (Err why) limit desk0 desk1 input0 input2 output0 output2
-    at (inl (is, takes)) = subst (λ (w : TalkError). Session (Err w) limit desk0 desk1 input0 input2 output0 output2) (sym is)
+    at : Parts fixed.NoMemory fault.NoMemory why output1 output2 → Session (Err why) limit means0 means1 input0 input2 output0 output2
+    at (inl (is, takes)) = subst (λ (w : TalkError). Session (Err w) limit means0 means1 input0 input2 output0 output2) (sym is)
         (session_of s.grown_by (s.bytes ++ fetches.bytes) (reads_later s.moved fetches.read) are some (s.text ++ last_words fixed.NoMemory, inl runs, takes_twice s.wrote takes) tt)
-    at (inr (is, front)) = subst (λ (w : TalkError). Session (Err w) limit desk0 desk1 input0 input2 output0 output2) (sym is)
+    at (inr (is, front)) = subst (λ (w : TalkError). Session (Err w) limit means0 means1 input0 input2 output0 output2) (sym is)
         (session_of s.grown_by (s.bytes ++ fetches.bytes) (reads_later s.moved fetches.read) are some (s.text ++ last_words fixed.NoMemory, RunningOut runs, takes_then_front s.wrote front) tt)
 
 -- ---- a request that waits for its reply
 
 -- a request was read behind those that were answered, and the line that it waits for was written
-pub record Waiting (limit i n : ℕ) (talk : TalkState) (raw : Raw) (continues : Bool) (desk0 desk1 : Desk) (input0 input1 : SourceState) (output0 output1 : SinkState) : Type 0 where
+pub record Waiting (limit i n : ℕ) (talk : TalkState) (raw : Raw) (continues : Bool) (means0 means1 : Means) (input0 input1 : SourceState) (output0 output1 : SinkState) : Type 0 where
   pub bytes : List ℕ
   pub given : List Item
   pub parts : List Part
@@ -370,27 +277,27 @@ pub record Waiting (limit i n : ℕ) (talk : TalkState) (raw : Raw) (continues :
   pub moved : Moves input0 input1 bytes
   pub led : Leads (talk_of bytes false) (given ++ request_items raw continues) talk
   pub still : talk.ended ≡ false
-  pub grown_by : Grown desk0 desk1 parts replies
+  pub grown_by : Grown means0 means1 parts replies
   pub count : length parts ≡ i
   pub left_is : i + suc n ≡ limit
   pub done : Serves limit given (requests_of parts) replies text (suc n)
   pub wrote : Takes output0 output1 (text ++ line_for continues)
 
 -- the items of the bytes are those before the request, the request, and those of the talk
-waiting-items : {limit i n : ℕ} {talk : TalkState} {raw : Raw} {continues : Bool} {desk0 desk1 : Desk} {input0 input1 : SourceState} {output0 output1 : SinkState}
-    (w : Waiting limit i n talk raw continues desk0 desk1 input0 input1 output0 output1) → (w.given ++ request_items raw continues) ++ items_from talk ≡ items_of w.bytes false
+waiting-items : {limit i n : ℕ} {talk : TalkState} {raw : Raw} {continues : Bool} {means0 means1 : Means} {input0 input1 : SourceState} {output0 output1 : SinkState}
+    (w : Waiting limit i n talk raw continues means0 means1 input0 input1 output0 output1) → (w.given ++ request_items raw continues) ++ items_from talk ≡ items_of w.bytes false
 waiting-items {talk = talk} {raw = raw} {continues = continues} w = sym (items_lead (talk_of w.bytes false) talk (w.given ++ request_items raw continues) w.led)
 
-request_is : {limit i : ℕ} {talk new : TalkState} {desk0 desk1 : Desk} {input0 input1 input2 : SourceState} {output0 output1 : SinkState} (raw : Raw) (continues : Bool) → i < limit
-    → (s : Serving limit i talk desk0 desk1 input0 input1 output0 output1) → (fetches : Fetches talk new (fetched.Request raw continues) input1 input2)
+request_is : {limit i : ℕ} {talk new : TalkState} {means0 means1 : Means} {input0 input1 input2 : SourceState} {output0 output1 : SinkState} (raw : Raw) (continues : Bool) → i < limit
+    → (s : Serving limit i talk means0 means1 input0 input1 output0 output1) → (fetches : Fetches talk new (fetched.Request raw continues) input1 input2)
     → Leads (talk_of (s.bytes ++ fetches.bytes) false) (s.given ++ request_items raw continues) new
 request_is {talk = talk} {new = new} raw continues below s fetches =
     leads_then (talk_of (s.bytes ++ fetches.bytes) false) (grown talk fetches.bytes false) new s.given (request_items raw continues)
     (leads_more (talk_of s.bytes false) talk s.given fetches.bytes false refl s.led) fetches.item.0
 
-pub waits : {limit i : ℕ} {talk new : TalkState} {desk0 desk1 : Desk} {input0 input1 input2 : SourceState} {output0 output1 output2 : SinkState} (raw : Raw) (continues : Bool) → i < limit
-    → Serving limit i talk desk0 desk1 input0 input1 output0 output1 → Fetches talk new (fetched.Request raw continues) input1 input2 → Takes output1 output2 (line_for continues)
-    → (n : ℕ) × Waiting limit i n new raw continues desk0 desk1 input0 input2 output0 output2
+pub waits : {limit i : ℕ} {talk new : TalkState} {means0 means1 : Means} {input0 input1 input2 : SourceState} {output0 output1 output2 : SinkState} (raw : Raw) (continues : Bool) → i < limit
+    → Serving limit i talk means0 means1 input0 input1 output0 output1 → Fetches talk new (fetched.Request raw continues) input1 input2 → Takes output1 output2 (line_for continues)
+    → (n : ℕ) × Waiting limit i n new raw continues means0 means1 input0 input2 output0 output2
 waits {limit} {i} {talk} {new} raw continues below s fetches takes =
     let some = some_left i s.left limit s.left_is below in (
       some.0,
@@ -412,10 +319,10 @@ waits {limit} {i} {talk} {new} raw continues below s fetches takes =
     )
 
 -- the line of the request isn't written whole
-pub line_fails : {limit i : ℕ} {talk new : TalkState} {desk0 desk1 : Desk} {input0 input1 input2 : SourceState} {output0 output1 output2 : SinkState} (raw : Raw) (continues : Bool) → i < limit
-    → Serving limit i talk desk0 desk1 input0 input1 output0 output1 → Fetches talk new (fetched.Request raw continues) input1 input2 → TakesFront output1 output2 (line_for continues)
-    → Session (Err fault.WriteFault) limit desk0 desk1 input0 input2 output0 output2
-line_fails {limit} {i} {talk} {new} {desk0} {desk1} {input0} {input1} {input2} {output0} {output1} {output2} raw continues below s fetches front =
+pub line_fails : {limit i : ℕ} {talk new : TalkState} {means0 means1 : Means} {input0 input1 input2 : SourceState} {output0 output1 output2 : SinkState} (raw : Raw) (continues : Bool) → i < limit
+    → Serving limit i talk means0 means1 input0 input1 output0 output1 → Fetches talk new (fetched.Request raw continues) input1 input2 → TakesFront output1 output2 (line_for continues)
+    → Session (Err fault.WriteFault) limit means0 means1 input0 input2 output0 output2
+line_fails {limit} {i} {talk} {new} {means0} {means1} {input0} {input1} {input2} {output0} {output1} {output2} raw continues below s fetches front =
     let some = some_left i s.left limit s.left_is below in
     let request = request_items raw continues in
     let rest = items_from new in
@@ -455,33 +362,33 @@ refused-output : {limit n : ℕ} {items : List Item} {entered : List Raw} {repli
 refused-output {limit} {n} {items} {entered} {replies} {text} {raw} {continues} r tail =
     ap (λ (told : List ℕ). told ++ next_line items limit replies ++ tail_text tail) r.writes ∙ ap (λ (line : List ℕ). text ++ line ++ tail_text tail) r.line
 
--- the book has no room for it
-pub stops_full : {limit i n : ℕ} {talk : TalkState} {raw : Raw} {continues : Bool} {desk0 desk1 : Desk} {input0 input1 : SourceState} {output0 output1 output2 : SinkState} (why : TalkError)
-    → Waiting limit i n talk raw continues desk0 desk1 input0 input1 output0 output1 → IsFullFor desk1.book raw → Parts fixed.HistoryFull fault.Full why output1 output2
-    → Session (Err why) limit desk0 desk1 input0 input1 output0 output2
-stops_full {limit} {i} {n} {talk} {raw} {continues} {desk0} {desk1} {input0} {input1} {output0} {output1} {output2} why w full parts = at parts
+-- the history has no room for it
+pub stops_full : {limit i n : ℕ} {talk : TalkState} {raw : Raw} {continues : Bool} {means0 means1 : Means} {input0 input1 : SourceState} {output0 output1 output2 : SinkState} (why : TalkError)
+    → Waiting limit i n talk raw continues means0 means1 input0 input1 output0 output1 → IsFullFor means1.known raw → Parts fixed.HistoryFull fault.Full why output1 output2
+    → Session (Err why) limit means0 means1 input0 input1 output0 output2
+stops_full {limit} {i} {n} {talk} {raw} {continues} {means0} {means1} {input0} {input1} {output0} {output1} {output2} why w full parts = at parts
   where
     r : Refused limit n ((w.given ++ request_items raw continues) ++ items_from talk) (requests_of w.parts) w.replies w.text raw continues
     r = refused raw continues (items_from talk) w.done
 
-    next : NextIsFull desk1.book (served ((w.given ++ request_items raw continues) ++ items_from talk) limit) (requests_of w.parts)
+    next : NextIsFull means1.known (served ((w.given ++ request_items raw continues) ++ items_from talk) limit) (requests_of w.parts)
     next = record { refused = raw; rest = r.rest; next = r.serves; full = full }
 
     text_is : output ((w.given ++ request_items raw continues) ++ items_from talk) limit w.replies (Some fixed.HistoryFull) ≡ (w.text ++ line_for continues) ++ last_words fixed.HistoryFull
     text_is = refused-output r (Some fixed.HistoryFull)
 
-    at : Parts fixed.HistoryFull fault.Full why output1 output2 → Session (Err why) limit desk0 desk1 input0 input1 output0 output2
-    at (inl (is, takes)) = subst (λ (e : TalkError). Session (Err e) limit desk0 desk1 input0 input1 output0 output2) (sym is)
+    at : Parts fixed.HistoryFull fault.Full why output1 output2 → Session (Err why) limit means0 means1 input0 input1 output0 output2
+    at (inl (is, takes)) = subst (λ (e : TalkError). Session (Err e) limit means0 means1 input0 input1 output0 output2) (sym is)
         (session_of w.grown_by w.bytes w.moved (waiting-items w) next (subst (Takes output0 output2) (sym text_is) (takes_twice w.wrote takes)) tt)
-    at (inr (is, front)) = subst (λ (e : TalkError). Session (Err e) limit desk0 desk1 input0 input1 output0 output2) (sym is)
+    at (inr (is, front)) = subst (λ (e : TalkError). Session (Err e) limit means0 means1 input0 input1 output0 output2) (sym is)
         (session_of w.grown_by w.bytes (inl w.moved) (waiting-items w) (raw ∷ r.rest, r.serves)
         ((w.text ++ line_for continues) ++ last_words fixed.HistoryFull, Filling next (sym text_is), takes_then_front w.wrote front) tt)
 
 -- there is no memory for it
-pub stops_no_memory : {limit i n : ℕ} {talk : TalkState} {raw : Raw} {continues : Bool} {desk0 desk1 : Desk} {input0 input1 : SourceState} {output0 output1 output2 : SinkState} (why : TalkError)
-    → Waiting limit i n talk raw continues desk0 desk1 input0 input1 output0 output1 → Parts fixed.NoMemory fault.NoMemory why output1 output2
-    → Session (Err why) limit desk0 desk1 input0 input1 output0 output2
-stops_no_memory {limit} {i} {n} {talk} {raw} {continues} {desk0} {desk1} {input0} {input1} {output0} {output1} {output2} why w parts = at parts
+pub stops_no_memory : {limit i n : ℕ} {talk : TalkState} {raw : Raw} {continues : Bool} {means0 means1 : Means} {input0 input1 : SourceState} {output0 output1 output2 : SinkState} (why : TalkError)
+    → Waiting limit i n talk raw continues means0 means1 input0 input1 output0 output1 → Parts fixed.NoMemory fault.NoMemory why output1 output2
+    → Session (Err why) limit means0 means1 input0 input1 output0 output2
+stops_no_memory {limit} {i} {n} {talk} {raw} {continues} {means0} {means1} {input0} {input1} {output0} {output1} {output2} why w parts = at parts
   where
     r : Refused limit n ((w.given ++ request_items raw continues) ++ items_from talk) (requests_of w.parts) w.replies w.text raw continues
     r = refused raw continues (items_from talk) w.done
@@ -489,11 +396,11 @@ stops_no_memory {limit} {i} {n} {talk} {raw} {continues} {desk0} {desk1} {input0
     runs : RunsOut ((w.given ++ request_items raw continues) ++ items_from talk) limit w.replies ((w.text ++ line_for continues) ++ last_words fixed.NoMemory)
     runs = record { line = line_for continues; line_is = inr (sym r.line); text_is = ap (λ (told : List ℕ). told ++ line_for continues ++ last_words fixed.NoMemory) (sym r.writes) }
 
-    at : Parts fixed.NoMemory fault.NoMemory why output1 output2 → Session (Err why) limit desk0 desk1 input0 input1 output0 output2
-    at (inl (is, takes)) = subst (λ (e : TalkError). Session (Err e) limit desk0 desk1 input0 input1 output0 output2) (sym is)
+    at : Parts fixed.NoMemory fault.NoMemory why output1 output2 → Session (Err why) limit means0 means1 input0 input1 output0 output2
+    at (inl (is, takes)) = subst (λ (e : TalkError). Session (Err e) limit means0 means1 input0 input1 output0 output2) (sym is)
         (session_of w.grown_by w.bytes (inl w.moved) (waiting-items w) (raw ∷ r.rest, r.serves)
         ((w.text ++ line_for continues) ++ last_words fixed.NoMemory, inl runs, takes_twice w.wrote takes) tt)
-    at (inr (is, front)) = subst (λ (e : TalkError). Session (Err e) limit desk0 desk1 input0 input1 output0 output2) (sym is)
+    at (inr (is, front)) = subst (λ (e : TalkError). Session (Err e) limit means0 means1 input0 input1 output0 output2) (sym is)
         (session_of w.grown_by w.bytes (inl w.moved) (waiting-items w) (raw ∷ r.rest, r.serves)
         ((w.text ++ line_for continues) ++ last_words fixed.NoMemory, RunningOut runs, takes_then_front w.wrote front) tt)
 
@@ -534,49 +441,53 @@ flag : (limit i n : ℕ) (asked last : Bool) → i + suc n ≡ limit → last �
 flag limit i n asked last sum is = is ∙ ap (λ b. asked || b) (last_flag i n limit sum)
 
 -- the reply was lost
-pub stops_lost : {limit i n : ℕ} {talk : TalkState} {raw : Raw} {continues : Bool} {desk0 desk1 desk2 : Desk} {input0 input1 : SourceState} {output0 output1 : SinkState} (run : Option Run) (reply : Reply)
-    → Waiting limit i n talk raw continues desk0 desk1 input0 input1 output0 output1 → Entered desk1 desk2 raw run reply → is_out run ≡ false
-    → Session (Err fault.NoMemory) limit desk0 desk2 input0 input1 output0 output1
-stops_lost {limit} {i} {n} {talk} {raw} {continues} {desk0} {desk1} {desk2} {input0} {input1} {output0} {output1} run reply w e had =
-    let r : Refused limit n ((w.given ++ request_items raw continues) ++ items_from talk) (requests_of w.parts) w.replies w.text raw continues = refused raw continues (items_from talk) w.done in
-    session_of (grown-push w.grown_by e had) w.bytes (inl w.moved) (waiting-items w) (r.rest, front-push _ r.rest w.parts (part_of raw run) r.serves)
+pub stops_lost : {limit i n : ℕ} {talk : TalkState} {part : Part} {continues : Bool} {means0 means1 means2 : Means} {input0 input1 : SourceState} {output0 output1 : SinkState} (reply : Reply)
+    → Waiting limit i n talk part.raw continues means0 means1 input0 input1 output0 output1 → Took means1 means2 part reply → IsWell part
+    → Session (Err fault.NoMemory) limit means0 means2 input0 input1 output0 output1
+stops_lost {limit} {i} {n} {talk} {part} {continues} {means0} {means1} {means2} {input0} {input1} {output0} {output1} reply w t well =
+    let r : Refused limit n ((w.given ++ request_items part.raw continues) ++ items_from talk) (requests_of w.parts) w.replies w.text part.raw continues = refused part.raw continues (items_from talk) w.done in
+    session_of (grown-push w.grown_by t well) w.bytes (inl w.moved) (waiting-items w) (r.rest, front-push _ r.rest w.parts part r.serves)
     (w.text ++ line_for continues, inr (record { before = w.replies; lost = reply; all = refl; text_is = sym (refused-output r None ∙ append-nil (w.text ++ line_for continues)) }), w.wrote) tt
 
 -- the reply wasn't written whole
-pub stops_unwritten : {limit i n : ℕ} {talk : TalkState} {raw : Raw} {continues : Bool} {desk0 desk1 desk2 : Desk} {input0 input1 : SourceState} {output0 output1 output2 : SinkState} (last : Bool) (run : Option Run) (reply : Reply)
-    → last ≡ (raw.close || i + 1 == limit) → Waiting limit i n talk raw continues desk0 desk1 input0 input1 output0 output1 → Entered desk1 desk2 raw run reply → is_out run ≡ false
-    → TakesFront output1 output2 (rendered reply last) → Session (Err fault.WriteFault) limit desk0 desk2 input0 input1 output0 output2
-stops_unwritten {limit} {i} {n} {talk} {raw} {continues} {desk0} {desk1} {desk2} {input0} {input1} {output0} {output1} {output2} last run reply is w e had front =
+pub stops_unwritten : {limit i n : ℕ} {talk : TalkState} {part : Part} {continues : Bool} {means0 means1 means2 : Means} {input0 input1 : SourceState} {output0 output1 output2 : SinkState} (last : Bool) (reply : Reply)
+    → last ≡ is_last_of limit i part.raw.close → Waiting limit i n talk part.raw continues means0 means1 input0 input1 output0 output1 → Took means1 means2 part reply → IsWell part
+    → TakesFront output1 output2 (rendered reply last) → Session (Err fault.WriteFault) limit means0 means2 input0 input1 output0 output2
+stops_unwritten {limit} {i} {n} {talk} {part} {continues} {means0} {means1} {means2} {input0} {input1} {output0} {output1} {output2} last reply is w t well front =
+    let raw = part.raw in
     let r = replied raw continues (items_from talk) reply w.done in
     let line = cond raw.close [] (next_line (items_from talk) n []) in
     let out = w.text ++ reply_text continues (raw.close || n == 0) reply in
     let whole : TakesFront output0 output2 out =
     subst (λ b. TakesFront output0 output2 (w.text ++ reply_text continues b reply)) (flag limit i n raw.close last w.left_is is)
     (subst (TakesFront output0 output2) (append_assoc w.text (line_for continues) (rendered reply last)) (takes_then_front w.wrote front)) in
-    session_of (grown-push w.grown_by e had) w.bytes (inl w.moved) (waiting-items w)
-    (r.rest, r.serves ∙ ap (λ raws. raws ++ r.rest) (sym (requests-push w.parts (part_of raw run)))) (out ++ line, Replying (sym r.output_is), front_of_more line whole) tt
+    session_of (grown-push w.grown_by t well) w.bytes (inl w.moved) (waiting-items w)
+    (r.rest, r.serves ∙ ap (λ raws. raws ++ r.rest) (sym (requests-push w.parts part))) (out ++ line, Replying (sym r.output_is), front_of_more line whole) tt
 
 -- the run was given up for want of memory, and the last words are the reply
-pub stops_parked : {limit i n : ℕ} {talk : TalkState} {raw : Raw} {continues : Bool} {desk0 desk1 desk2 : Desk} {input0 input1 : SourceState} {output0 output1 output2 : SinkState} (run : Option Run) (got : TalkError)
-    → Waiting limit i n talk raw continues desk0 desk1 input0 input1 output0 output1 → Entered desk1 desk2 raw run (park_reply why.NoMemory) → is_out run ≡ true
-    → PartsOut got output1 output2 → Session (Err got) limit desk0 desk2 input0 input1 output0 output2
-stops_parked {limit} {i} {n} {talk} {raw} {continues} {desk0} {desk1} {desk2} {input0} {input1} {output0} {output1} {output2} run got w e out parts =
-    subst (λ (x : TalkError). Session (Err x) limit desk0 desk2 input0 input1 output0 output2) (sym parts.0)
-    (session_with (work-push w.grown_by.work e) w.bytes (inl w.moved) (waiting-items w) (r.rest, front-push _ r.rest w.parts (part_of raw run) r.serves) (writes (ends parts.1)) tt)
+pub stops_parked : {limit i n : ℕ} {talk : TalkState} {part : Part} {continues : Bool} {means0 means1 means2 : Means} {input0 input1 : SourceState} {output0 output1 output2 : SinkState} (got : TalkError)
+    → Waiting limit i n talk part.raw continues means0 means1 input0 input1 output0 output1 → Took means1 means2 part (park_reply why.NoMemory) → mark_of part ≡ kept.Yes → is_out part.run ≡ true
+    → PartsOut got output1 output2 → Session (Err got) limit means0 means2 input0 input1 output0 output2
+stops_parked {limit} {i} {n} {talk} {part} {continues} {means0} {means1} {means2} {input0} {input1} {output0} {output1} {output2} got w t marked out parts =
+    subst (λ (x : TalkError). Session (Err x) limit means0 means2 input0 input1 output0 output2) (sym parts.0)
+    (session_with (work-push w.grown_by.work t) w.bytes (inl w.moved) (waiting-items w) (r.rest, front-push _ r.rest w.parts part r.serves) (writes (ends parts.1)) tt)
   where
     items : List Item
-    items = (w.given ++ request_items raw continues) ++ items_from talk
+    items = (w.given ++ request_items part.raw continues) ++ items_from talk
 
-    r : Refused limit n items (requests_of w.parts) w.replies w.text raw continues
-    r = refused raw continues (items_from talk) w.done
+    r : Refused limit n items (requests_of w.parts) w.replies w.text part.raw continues
+    r = refused part.raw continues (items_from talk) w.done
 
     text_is : output items limit w.replies (Some fixed.NoMemory) ≡ (w.text ++ line_for continues) ++ last_words fixed.NoMemory
     text_is = refused-output r (Some fixed.NoMemory)
 
     writes : EndsOut (Err fault.NoMemory) output0 output2 (output items limit w.replies (Some fixed.NoMemory))
-        → session.Writes (Err fault.NoMemory) items limit desk2.book (w.parts ++ part_of raw run ∷ []) (w.replies ++ park_reply why.NoMemory ∷ []) output0 output2
-    writes ends = inr (record {
-      out = record { before = w.parts; last = part_of raw run; all = refl; had_memory = w.grown_by.had_memory; out = out };
+        → session.Writes (Err fault.NoMemory) items limit means2.known (w.parts ++ part ∷ []) (w.replies ++ park_reply why.NoMemory ∷ []) output0 output2
+    writes ends = Out (record {
+      last = part;
+      last_is = record { before = w.parts; all = refl; well = w.grown_by.well };
+      marked = marked;
+      out = out;
       before = w.replies;
       all = refl;
       ends = ends;
@@ -587,24 +498,96 @@ stops_parked {limit} {i} {n} {talk} {raw} {continues} {desk0} {desk1} {desk2} {i
     ends (inl takes) = inl (subst (Takes output0 output2) (sym text_is) (takes_twice w.wrote takes))
     ends (inr front) = inr (subst (TakesFront output0 output2) (sym text_is) (takes_then_front w.wrote front))
 
--- the session breaks off at a request
-pub breaks_off : {limit i n : ℕ} {talk : TalkState} {raw : Raw} {continues : Bool} {desk0 desk1 desk2 : Desk} {input0 input1 : SourceState} {output0 output1 output2 : SinkState} (last : Bool) (what : Outcome) (why : TalkError)
-    → last ≡ (raw.close || i + 1 == limit) → Waiting limit i n talk raw continues desk0 desk1 input0 input1 output0 output1 → Answers desk1 desk2 raw what → Sends what last (Err why) output1 output2
-    → Session (Err why) limit desk0 desk2 input0 input1 output0 output2
-breaks_off {limit} {i} {n} {talk} {raw} {continues} {desk0} {desk1} {desk2} {input0} {input1} {output0} {output1} {output2} last what why is w answers sends = at what why answers sends
+-- a session that breaks off at an entry that isn't kept had read some of its bytes, and may have been at any of its requests
+breaks_anywhere : (out : Bool) (mark : Kept) (why : TalkError) → BreaksFor out mark why → {input0 input1 : SourceState} {bytes : List ℕ} → Moves input0 input1 bytes → (known : Known) (requests entered : List Raw)
+    → session.IsFront entered requests → (halt : Halt) (replies : ℕ)
+    → session.Reads (Err why) input0 input1 bytes × (session.has_ended (Err why) ≡ false) × session.Enters (Err why) known requests entered × session.StopsAs (Err why) halt replies
+breaks_anywhere out kept.Yes why breaks moved known requests entered front halt replies = absurd breaks
+breaks_anywhere true kept.Failed why breaks moved known requests entered front halt replies = rw breaks (inl moved, refl, front, tt)
+breaks_anywhere false kept.Failed why breaks moved known requests entered front halt replies = rw breaks (moved, refl, front, tt)
+breaks_anywhere true kept.NoMemory why breaks moved known requests entered front halt replies = rw breaks (inl moved, refl, front, tt)
+breaks_anywhere false kept.NoMemory why breaks moved known requests entered front halt replies = rw breaks (inl moved, refl, front, tt)
+
+-- an entry isn't kept, and no reply is written
+pub stops_unkept : {limit i n : ℕ} {talk : TalkState} {part : Part} {continues : Bool} {means0 means1 means2 : Means} {input0 input1 : SourceState} {output0 output1 : SinkState} (reply : Reply) (why : TalkError)
+    → Waiting limit i n talk part.raw continues means0 means1 input0 input1 output0 output1 → Took means1 means2 part reply → BreaksFor (is_out part.run) (mark_of part) why
+    → Session (Err why) limit means0 means2 input0 input1 output0 output1
+stops_unkept {limit} {i} {n} {talk} {part} {continues} {means0} {means1} {means2} {input0} {input1} {output0} {output1} reply why w t breaks =
+    session_with (work-push w.grown_by.work t) w.bytes any.0 (waiting-items w ∙ ap (λ ended. items_of w.bytes ended) (sym any.1)) any.2 (NoMore writes) any.3
   where
-    at : (what : Outcome) (why : TalkError) → Answers desk1 desk2 raw what → Sends what last (Err why) output1 output2 → Session (Err why) limit desk0 desk2 input0 input1 output0 output2
-    at (outcome.Reply reply) fault.WriteFault e front = stops_unwritten last e.0 reply is w e.1 e.2 front
-    at (outcome.Reply reply) fault.NoMemory e same = subst (λ (o : SinkState). Session (Err fault.NoMemory) limit desk0 desk2 input0 input1 output0 o) (sym same) (stops_lost e.0 reply w e.1 e.2)
+    items : List Item
+    items = (w.given ++ request_items part.raw continues) ++ items_from talk
+
+    r : Refused limit n items (requests_of w.parts) w.replies w.text part.raw continues
+    r = refused part.raw continues (items_from talk) w.done
+
+    any : session.Reads (Err why) input0 input1 w.bytes × (session.has_ended (Err why) ≡ false) × session.Enters (Err why) means2.known (served items limit) (requests_of (w.parts ++ part ∷ []))
+        × session.StopsAs (Err why) (halt_of items limit) (length (w.parts ++ part ∷ []))
+    any = breaks_anywhere (is_out part.run) (mark_of part) why breaks w.moved means2.known (served items limit) (requests_of (w.parts ++ part ∷ [])) (r.rest, front-push _ r.rest w.parts part r.serves)
+        (halt_of items limit) (length (w.parts ++ part ∷ []))
+
+    writes : session.WritesNoMore (Err why) items limit (w.parts ++ part ∷ []) (w.replies ++ reply ∷ []) output0 output1
+    writes = record {
+      last = part;
+      last_is = record { before = w.parts; all = refl; well = w.grown_by.well };
+      why = why;
+      breaks = breaks;
+      result_is = refl;
+      before = w.replies;
+      unwritten = reply;
+      all = refl;
+      ends = subst (Takes output0 output1) (sym (refused-output r None ∙ append-nil (w.text ++ line_for continues))) w.wrote;
+    }
+
+-- where nothing was entered, a request waits as before
+waits-still : {limit i n : ℕ} {talk : TalkState} {raw : Raw} {continues : Bool} {means0 means1 means2 : Means} {input0 input1 : SourceState} {output0 output1 : SinkState}
+    → Waiting limit i n talk raw continues means0 means1 input0 input1 output0 output1 → Idles means1 means2 → Waiting limit i n talk raw continues means0 means2 input0 input1 output0 output1
+waits-still w idles = record {
+  bytes = w.bytes;
+  given = w.given;
+  parts = w.parts;
+  replies = w.replies;
+  text = w.text;
+  moved = w.moved;
+  led = w.led;
+  still = w.still;
+  grown_by = grown-saw w.grown_by idles;
+  count = w.count;
+  left_is = w.left_is;
+  done = w.done;
+  wrote = w.wrote;
+}
+
+-- the session breaks off at a request
+pub breaks_off : {limit i n : ℕ} {talk : TalkState} {raw : Raw} {continues : Bool} {means0 means1 means2 : Means} {input0 input1 : SourceState} {output0 output1 output2 : SinkState} (last : Bool) (what : Outcome) (why : TalkError)
+    → last ≡ is_last_of limit i raw.close → Waiting limit i n talk raw continues means0 means1 input0 input1 output0 output1 → Answers means1 means2 raw what → Sends what last (Err why) output1 output2
+    → Session (Err why) limit means0 means2 input0 input1 output0 output2
+breaks_off {limit} {i} {n} {talk} {raw} {continues} {means0} {means1} {means2} {input0} {input1} {output0} {output1} {output2} last what why is w answers sends = at what why answers sends
+  where
+    -- for the request of a part
+    of_part : (part : Part) → part.raw ≡ raw → (why : TalkError)
+        → (last ≡ is_last_of limit i part.raw.close → Waiting limit i n talk part.raw continues means0 means1 input0 input1 output0 output1 → Session (Err why) limit means0 means2 input0 input1 output0 output2)
+        → Session (Err why) limit means0 means2 input0 input1 output0 output2
+    of_part part same why stops =
+        stops (subst (λ (r : Raw). last ≡ is_last_of limit i r.close) (sym same) is) (subst (λ (r : Raw). Waiting limit i n talk r continues means0 means1 input0 input1 output0 output1) (sym same) w)
+
+    at : (what : Outcome) (why : TalkError) → Answers means1 means2 raw what → Sends what last (Err why) output1 output2 → Session (Err why) limit means0 means2 input0 input1 output0 output2
+    at (outcome.Reply reply) fault.WriteFault e front = of_part e.0 e.1 fault.WriteFault (λ is w. stops_unwritten last reply is w e.2 e.3 front)
+    at (outcome.Reply reply) fault.NoMemory e same = of_part e.0 e.1 fault.NoMemory
+        (λ is w. subst (λ (o : SinkState). Session (Err fault.NoMemory) limit means0 means2 input0 input1 output0 o) (sym same) (stops_lost reply w e.2 e.3))
     at (outcome.Reply reply) fault.ReadFault e sends = absurd sends
     at (outcome.Reply reply) fault.Cut e sends = absurd sends
     at (outcome.Reply reply) fault.Full e sends = absurd sends
-    at outcome.Parked got e parts = stops_parked e.0 got w e.1 e.2 parts
-    at outcome.Full why e parts = subst (λ (b : Desk). Session (Err why) limit desk0 b input0 input1 output0 output2) (sym e.0) (stops_full why w e.1 parts)
-    at outcome.NoMemory why e parts = subst (λ (b : Desk). Session (Err why) limit desk0 b input0 input1 output0 output2) (sym e) (stops_no_memory why w parts)
+    at (outcome.Reply reply) fault.KeepFault e sends = absurd sends
+    at outcome.Parked got e parts = of_part e.0 e.1 got (λ is w. stops_parked got w e.2 e.3 e.4 parts)
+    at (outcome.Unkept reason) got e sends = of_part e.0 e.2 got
+        (λ is w. subst (λ (o : SinkState). Session (Err got) limit means0 means2 input0 input1 output0 o) (sym sends.1)
+        (stops_unkept e.1 got w e.3 (subst (BreaksFor (is_out e.0.run) (mark_of e.0)) (sym sends.0) e.4)))
+    at outcome.Full why e parts = stops_full why (waits-still w e.0) e.1 parts
+    at outcome.NoMemory why e parts = stops_no_memory why (waits-still w e) parts
 
 -- the request was entered and its reply written
-pub record Done (limit i n : ℕ) (talk : TalkState) (raw : Raw) (desk0 desk1 : Desk) (input0 input1 : SourceState) (output0 output1 : SinkState) : Type 0 where
+pub record Done (limit i n : ℕ) (talk : TalkState) (raw : Raw) (means0 means1 : Means) (input0 input1 : SourceState) (output0 output1 : SinkState) : Type 0 where
   pub bytes : List ℕ
   pub given : List Item
   pub before : List Raw
@@ -615,44 +598,45 @@ pub record Done (limit i n : ℕ) (talk : TalkState) (raw : Raw) (desk0 desk1 : 
   pub moved : Moves input0 input1 bytes
   pub led : Leads (talk_of bytes false) given talk
   pub still : talk.ended ≡ false
-  pub grown_by : Grown desk0 desk1 parts replies
+  pub grown_by : Grown means0 means1 parts replies
   pub requests : requests_of parts ≡ before ++ raw ∷ []
   pub count : length parts ≡ i + 1
   pub left_is : i + suc n ≡ limit
-  pub done : Took limit given before replies text raw continues n
+  pub done : TookText limit given before replies text raw continues n
   pub wrote : Takes output0 output1 text
 
-pub answered : {limit i n : ℕ} {talk : TalkState} {raw : Raw} {continues : Bool} {desk0 desk1 desk2 : Desk} {input0 input1 : SourceState} {output0 output1 output2 : SinkState} (last : Bool) (what : Outcome) (nothing : ⊤)
-    → last ≡ (raw.close || i + 1 == limit) → Waiting limit i n talk raw continues desk0 desk1 input0 input1 output0 output1 → Answers desk1 desk2 raw what → Sends what last (Ok nothing) output1 output2
-    → Done limit i n talk raw desk0 desk2 input0 input1 output0 output2
-answered {limit} {i} {n} {talk} {raw} {continues} {desk0} {desk1} {desk2} {input0} {input1} {output0} {output1} {output2} last what nothing is w answers sends = at what answers sends
+pub answered : {limit i n : ℕ} {talk : TalkState} {raw : Raw} {continues : Bool} {means0 means1 means2 : Means} {input0 input1 : SourceState} {output0 output1 output2 : SinkState} (last : Bool) (what : Outcome) (nothing : ⊤)
+    → last ≡ is_last_of limit i raw.close → Waiting limit i n talk raw continues means0 means1 input0 input1 output0 output1 → Answers means1 means2 raw what → Sends what last (Ok nothing) output1 output2
+    → Done limit i n talk raw means0 means2 input0 input1 output0 output2
+answered {limit} {i} {n} {talk} {raw} {continues} {means0} {means1} {means2} {input0} {input1} {output0} {output1} {output2} last what nothing is w answers sends = at what answers sends
   where
-    at : (what : Outcome) → Answers desk1 desk2 raw what → Sends what last (Ok nothing) output1 output2 → Done limit i n talk raw desk0 desk2 input0 input1 output0 output2
+    at : (what : Outcome) → Answers means1 means2 raw what → Sends what last (Ok nothing) output1 output2 → Done limit i n talk raw means0 means2 input0 input1 output0 output2
     at (outcome.Reply reply) e takes = record {
       bytes = w.bytes;
       given = w.given ++ request_items raw continues;
       before = requests_of w.parts;
-      parts = w.parts ++ part_of raw e.0 ∷ [];
+      parts = w.parts ++ e.0 ∷ [];
       replies = w.replies ++ reply ∷ [];
       text = w.text ++ reply_text continues (raw.close || n == 0) reply;
       continues = continues;
       moved = w.moved;
       led = w.led;
       still = w.still;
-      grown_by = grown-push w.grown_by e.1 e.2;
-      requests = requests-push w.parts (part_of raw e.0);
-      count = length_push w.parts (part_of raw e.0) ∙ ap (λ k. k + 1) w.count;
+      grown_by = grown-push w.grown_by e.2 e.3;
+      requests = requests-push w.parts e.0 ∙ ap (λ (r : Raw). requests_of w.parts ++ r ∷ []) e.1;
+      count = length_push w.parts e.0 ∙ ap (λ k. k + 1) w.count;
       left_is = w.left_is;
       done = took raw continues reply w.done;
       wrote = subst (λ b. Takes output0 output2 (w.text ++ reply_text continues b reply)) (flag limit i n raw.close last w.left_is is)
           (subst (Takes output0 output2) (append_assoc w.text (line_for continues) (rendered reply last)) (takes_twice w.wrote takes));
     }
     at outcome.Parked e sends = absurd sends
+    at (outcome.Unkept why) e sends = absurd sends
     at outcome.Full e sends = absurd sends
     at outcome.NoMemory e sends = absurd sends
 
-pub serves_on : {limit i n : ℕ} {talk : TalkState} {raw : Raw} {desk0 desk1 : Desk} {input0 input1 : SourceState} {output0 output1 : SinkState}
-    → Done limit i n talk raw desk0 desk1 input0 input1 output0 output1 → raw.close ≡ false → Serving limit (i + 1) talk desk0 desk1 input0 input1 output0 output1
+pub serves_on : {limit i n : ℕ} {talk : TalkState} {raw : Raw} {means0 means1 : Means} {input0 input1 : SourceState} {output0 output1 : SinkState}
+    → Done limit i n talk raw means0 means1 input0 input1 output0 output1 → raw.close ≡ false → Serving limit (i + 1) talk means0 means1 input0 input1 output0 output1
 serves_on {limit} {i} {n} {talk} {raw} d stays = record {
   bytes = d.bytes;
   given = d.given;
@@ -670,23 +654,87 @@ serves_on {limit} {i} {n} {talk} {raw} d stays = record {
   wrote = d.wrote;
 }
 
-pub stops_asked : {limit i n : ℕ} {talk : TalkState} {raw : Raw} {desk0 desk1 : Desk} {input0 input1 : SourceState} {output0 output1 : SinkState} (closed : Closed)
-    → closed ≡ record { replies = i + 1; stop = stop.Asked } → Done limit i n talk raw desk0 desk1 input0 input1 output0 output1 → raw.close ≡ true
-    → Session (Ok closed) limit desk0 desk1 input0 input1 output0 output1
-stops_asked {limit} {i} {n} {talk} {raw} {desk0} {desk1} {input0} {input1} {output0} {output1} closed is d closes =
+pub stops_asked : {limit i n : ℕ} {talk : TalkState} {raw : Raw} {means0 means1 : Means} {input0 input1 : SourceState} {output0 output1 : SinkState} (closed : Closed)
+    → closed ≡ record { replies = i + 1; stop = stop.Asked } → Done limit i n talk raw means0 means1 input0 input1 output0 output1 → raw.close ≡ true
+    → Session (Ok closed) limit means0 means1 input0 input1 output0 output1
+stops_asked {limit} {i} {n} {talk} {raw} {means0} {means1} {input0} {input1} {output0} {output1} closed is d closes =
     let rest = items_from talk in
     let last = goes_no_further d.done closes rest in
     let items = d.given ++ rest in
     let out : output items limit d.replies None ≡ d.text =
     append-nil (replies_text items limit d.replies ++ next_line items limit d.replies)
     ∙ ap (λ told. told ++ next_line items limit d.replies) last.2 ∙ ap (λ l. d.text ++ l) last.3 ∙ append-nil d.text in
-    subst (λ (c : Closed). Session (Ok c) limit desk0 desk1 input0 input1 output0 output1) (sym is)
+    subst (λ (c : Closed). Session (Ok c) limit means0 means1 input0 input1 output0 output1) (sym is)
     (session_of d.grown_by d.bytes d.moved (sym (items_lead (talk_of d.bytes false) talk d.given d.led)) (d.requests ∙ sym last.0) (subst (Takes output0 output1) (sym out) d.wrote) (last.1, sym d.count))
+
+-- ---- what a step comes to
+
+-- the session ended, or goes on with one reply more
+abbrev pub Follows : ℕ → ℕ → TalkState → Option (Result Closed TalkError) → Means → Means → SourceState → SourceState → SinkState → SinkState → Type 0
+Follows limit i talk (Some result) means0 means1 input0 input1 output0 output1 = Session result limit means0 means1 input0 input1 output0 output1
+Follows limit i talk None means0 means1 input0 input1 output0 output1 = Serving limit (i + 1) talk means0 means1 input0 input1 output0 output1
+
+follows_asked : {limit i n : ℕ} {talk : TalkState} {raw : Raw} {means0 means1 : Means} {input0 input1 : SourceState} {output0 output1 : SinkState} (asked : Bool) → raw.close ≡ asked
+    → Done limit i n talk raw means0 means1 input0 input1 output0 output1 → Follows limit i talk (closes_if asked (i + 1)) means0 means1 input0 input1 output0 output1
+follows_asked {i = i} true closes done = stops_asked (closed_as (i + 1) stop.Asked) refl done closes
+follows_asked false stays done = serves_on done stays
+
+pub follows : {limit i : ℕ} {talk new : TalkState} {means0 means1 : Means} {input0 input1 input2 : SourceState} {output0 output1 : SinkState} (means2 : Means) (output2 : SinkState) (what : Fetched) (end : Option (Result Closed TalkError)) → i < limit
+    → Serving limit i talk means0 means1 input0 input1 output0 output1 → Fetches talk new what input1 input2 → Steps limit i what end means1 means2 output1 output2
+    → Follows limit i new end means0 means2 input0 input2 output0 output2
+follows {limit} {i} {talk} {new} {means0} {means1} {input0} {input1} {input2} {output0} {output1} means2 output2 what end below s fetches steps = at what fetches steps
+  where
+    ends : (result : Result Closed TalkError) → end ≡ Some result → means2 ≡ means1 → Session result limit means0 means1 input0 input2 output0 output2
+        → Follows limit i new end means0 means2 input0 input2 output0 output2
+    ends result is same done =
+        subst (λ (e : Option (Result Closed TalkError)). Follows limit i new e means0 means2 input0 input2 output0 output2) (sym is)
+        (subst (λ (m : Means). Session result limit means0 m input0 input2 output0 output2) (sym same) done)
+
+    ends_as : (result : Result Closed TalkError) → stepping.EndsAs result end means1 means2 output1 output2 → Session result limit means0 means1 input0 input2 output0 output1
+        → Follows limit i new end means0 means2 input0 input2 output0 output2
+    ends_as result as_is done = ends result as_is.end_is as_is.means (subst (λ (o : SinkState). Session result limit means0 means1 input0 input2 output0 o) (sym as_is.output) done)
+
+    sent : (raw : Raw) (continues : Bool) → Fetches talk new (fetched.Request raw continues) input1 input2 → (r : stepping.Serves limit i raw continues end means1 means2 output1 output2)
+        → (got : Result ⊤ TalkError) → r.sent ≡ got → Sends r.what (is_last_of limit i raw.close) got r.middle output2
+        → Follows limit i new (stepping.after_sending got (closes_if raw.close (i + 1))) means0 means2 input0 input2 output0 output2
+    sent raw continues fetches r (Ok done) is sends =
+        let waiting = waits raw continues below s fetches r.announced in
+        follows_asked raw.close refl (answered (is_last_of limit i raw.close) r.what done refl waiting.1 r.answers sends)
+    sent raw continues fetches r (Err why) is sends =
+        let waiting = waits raw continues below s fetches r.announced in
+        breaks_off (is_last_of limit i raw.close) r.what why refl waiting.1 r.answers sends
+
+    at : (what : Fetched) → Fetches talk new what input1 input2 → Steps limit i what end means1 means2 output1 output2 → Follows limit i new end means0 means2 input0 input2 output0 output2
+    at (fetched.Request raw continues) fetches (inl r) =
+        subst (λ (e : Option (Result Closed TalkError)). Follows limit i new e means0 means2 input0 input2 output0 output2) (sym r.end_is) (sent raw continues fetches r r.sent refl r.sends)
+    at (fetched.Request raw continues) fetches (inr r) = ends (Err fault.WriteFault) r.end_is r.means (line_fails raw continues below s fetches r.front)
+    at (fetched.Close status) fetches r = ends r.result r.end_is r.means (stops_close status r.result below s fetches r.closes)
+    at fetched.End fetches r = ends_as (Ok (closed_as i stop.End)) r (stops_end (closed_as i stop.End) refl below s fetches)
+    at fetched.Cut fetches r = ends_as (Err fault.Cut) r (stops_cut below s fetches)
+    at fetched.ReadFault fetches r = ends_as (Err fault.ReadFault) r (stops_read_fault below s fetches)
+    at fetched.NoMemory fetches r = ends (Err r.why) r.end_is r.means (stops_out r.why s fetches r.parts)
+
+-- the same of a connection, whose sink a read leaves, and whose source a write leaves
+pub follows_on : {limit i : ℕ} {talk new : TalkState} {means0 means1 : Means} {input0 input1 input2 : SourceState} {output0 output1 : SinkState} (means2 : Means) (middle output2 : SinkState) (input3 : SourceState) (what : Fetched)
+    (end : Option (Result Closed TalkError)) → i < limit → Serving limit i talk means0 means1 input0 input1 output0 output1 → Fetches talk new what input1 input2 → Steps limit i what end means1 means2 middle output2
+    → middle ≡ output1 → input3 ≡ input2 → Follows limit i new end means0 means2 input0 input3 output0 output2
+follows_on {limit} {i} {talk} {new} {means0} {means1} {input0} {input1} {input2} {output0} {output1} means2 middle output2 input3 what end below s fetches steps read wrote =
+    subst (λ (x : SourceState). Follows limit i new end means0 means2 input0 x output0 output2) (sym wrote)
+    (follows means2 output2 what end below s fetches (subst (λ (o : SinkState). Steps limit i what end means1 means2 o output2) read steps))
+
+-- a session is closed with no other status than a closing one
+pub closes_known : {old new : TalkState} {input0 input1 : SourceState} (what : Fetched) → Fetches old new what input0 input1 → ClosesKnown what
+closes_known (fetched.Request raw continues) fetches = tt
+closes_known (fetched.Close status) fetches = closing_status _ _ status fetches.item
+closes_known fetched.End fetches = tt
+closes_known fetched.Cut fetches = tt
+closes_known fetched.ReadFault fetches = tt
+closes_known fetched.NoMemory fetches = tt
 
 -- ---- a session that did nothing
 
-pub none_served : {output0 output1 : SinkState} (why : TalkError) (limit : ℕ) (desk : Desk) (input : SourceState) → IsLegal desk.book.setup desk.book.history → Parts fixed.NoMemory fault.NoMemory why output0 output1
-    → Session (Err why) limit desk desk input input output0 output1
-none_served {output0} {output1} why limit desk input legal parts =
+pub none_served : {output0 output1 : SinkState} (why : TalkError) (limit : ℕ) (means : Means) (input : SourceState) → IsLegal means.known.setup (entries_in means.known.front) → Parts fixed.NoMemory fault.NoMemory why output0 output1
+    → Session (Err why) limit means means input input output0 output1
+none_served {output0} {output1} why limit means input legal parts =
     let nothing : Fetches (talk_of [] false) (talk_of [] false) fetched.NoMemory input input = record { bytes = []; read = inl (moves_nothing input); item = tt } in
-    stops_out why (begins limit desk input output0 legal) nothing parts
+    stops_out why (begins limit means input output0 legal) nothing parts

@@ -1,8 +1,12 @@
+pub mod Fronts
+pub mod Grows
 pub mod Parts
-pub mod Desks
+pub mod Means
 pub mod Answers
 pub mod Reads
 pub mod Served
 pub mod Sends
+pub mod Steps
 pub mod Session
+pub mod Laws
 pub mod Texts

@@ -5,36 +5,48 @@ use Rattle.ph_base.specs.declared.acquirer.Ruling.{Ruling}
 use Rattle.ph_base.specs.declared.acquirer.Why.{Why}
 use Rattle.ph_base.specs.declared.acquirer.Why.TheVariants as why
 use Rattle.ph_items.specs.declared.orders.Order.{Order}
+use Rattle.ph_lock.specs.Histories.{StartsWith}
 use Rattle.ph_http.specs.declared.message.Raw.{Raw}
 use Rattle.ph_http.specs.declared.message.Reply.{Reply}
 use Rattle.ph_book.specs.declared.acts.Deed.TheVariants as deed
 use Rattle.ph_book.specs.declared.acts.Entry.{Entry}
+use Rattle.ph_book.specs.declared.hosted.Kept.{Kept}
+use Rattle.ph_book.specs.declared.hosted.Kept.TheVariants as kept
 use Rattle.ph_book.specs.declared.setup.Setup.{Setup}
 use Rattle.ph_book.specs.Answers.{is_ruled}
 use Rattle.ph_book.specs.Entries.{call_entry}
-use Rattle.ph_book.specs.History.{said_to}
 use Rattle.ph_book.specs.Replies.{Said, Replies, Waits, Silence, park_reply}
 use Rattle.ph_bank.specs.declared.asking.Ask.{Ask}
 use Rattle.ph_bank.specs.declared.driving.Driven.{Driven}
 use Rattle.ph_bank.specs.declared.driving.Driven.TheVariants as driven
-use Rattle.ph_bank.specs.Drives.{EndsWith, waits}
+use Rattle.ph_bank.specs.Drives.{EndsWith, EndsDecided, waits}
+use Rattle.ph_bank.specs.Links.{Link}
+use Rattle.ph_conn.specs.Fronts.{Filed, said_behind}
 
 -- how the run of a call ended: its attempt was settled by a ruling, or it was given up for this reason
 pub data Ending : Type 0 where
   Settled : Ruling → Ending
   GivenUp : Why → Ending
 
--- the run of a call that waited for an order: its drive, which was granted so many polls and made this last ask, and the ending that was entered
-pub record Run : Type 0 where
-  pub order : Order
+-- what a drive did: it was granted so many polls, made this last ask, and ended so
+pub record Drive : Type 0 where
   pub grants : ℕ
   pub last : List Ask
   pub driven : Driven
-  pub ending : Ending
 
--- a request, and the run of its call, where it waited
+-- the run of a call that waited for an order: its drive, where it was driven; the history before its end, the ending that was entered, and whether that is kept
+pub record Run : Type 0 where
+  pub order : Order
+  pub drive : Option Drive
+  pub before : List Filed
+  pub ending : Ending
+  pub kept : Kept
+
+-- a request: the history before its call, whether that is kept, and the run of it, where it waited
 pub record Part : Type 0 where
   pub raw : Raw
+  pub before : List Filed
+  pub kept : Kept
   pub run : Option Run
 
 -- the requests of parts
@@ -43,24 +55,64 @@ requests_of parts = map (λ part. part.raw) parts
 
 -- ---- entries
 
+-- the place of the entry that comes behind a history
+abbrev pub place_behind : List Filed → ℕ
+place_behind before = length before + 1
+
 -- the entry that ends the run of this number
-abbrev pub end_entry : ℕ → Ending → Entry
-end_entry run (Settled ruling) = record { caller = 0; deed = deed.Finish run ruling }
-end_entry run (GivenUp reason) = record { caller = 0; deed = deed.Park run reason }
+abbrev pub end_entry : ℕ → ℕ → Ending → Entry
+end_entry caller run (Settled ruling) = record { caller = caller; deed = deed.Finish run ruling }
+end_entry caller run (GivenUp reason) = record { caller = caller; deed = deed.Park run reason }
 
--- what is entered behind a call with this place: where it waited, the end of the run with that number
-abbrev pub ends_at : ℕ → Option Run → List Entry
-ends_at place None = []
-ends_at place (Some run) = end_entry place run.ending ∷ []
+-- the call of a part, as it is filed
+abbrev pub call_filed : ℕ → Part → Filed
+call_filed caller part = record { entry = call_entry caller part.raw; kept = part.kept }
 
--- the entries of a part whose call has this place, by the one caller of a session
-abbrev pub entries_at : ℕ → Part → List Entry
-entries_at place part = call_entry 0 part.raw ∷ ends_at place part.run
+-- the end of the run that a place began, as it is filed
+abbrev pub end_filed : ℕ → ℕ → Run → Filed
+end_filed caller place run = record { entry = end_entry caller place run.ending; kept = run.kept }
 
--- the entries of parts, the first of which begins at this place
-abbrev pub entries_from : ℕ → List Part → List Entry
-entries_from place [] = []
-entries_from place (part ∷ parts) = entries_at place part ++ entries_from (place + length (entries_at place part)) parts
+-- what is entered behind a call with this place: where it waited, the end of the run with that number, with a place of its own
+abbrev pub ends_at : ℕ → ℕ → Option Run → List (ℕ × Filed)
+ends_at caller place None = []
+ends_at caller place (Some run) = (place_behind run.before, end_filed caller place run) ∷ []
+
+-- the entries of a part with their places
+abbrev pub entries_of : ℕ → Part → List (ℕ × Filed)
+entries_of caller part = (place_behind part.before, call_filed caller part) ∷ ends_at caller (place_behind part.before) part.run
+
+-- the entries of parts with their places
+abbrev pub mine_of : ℕ → List Part → List (ℕ × Filed)
+mine_of caller parts = flat_map (entries_of caller) parts
+
+-- ---- where they stand
+
+-- the history up to and with the call of a part
+abbrev pub called : ℕ → Part → List Filed
+called caller part = part.before ++ call_filed caller part ∷ []
+
+-- the history up to and with the end of a run that a place began, behind the call
+abbrev pub ended : ℕ → ℕ → List Filed → Option Run → List Filed
+ended caller place call None = call
+ended caller place call (Some run) = run.before ++ end_filed caller place run ∷ []
+
+-- the history up to and with the last entry of a part
+abbrev pub behind : ℕ → Part → List Filed
+behind caller part = ended caller (place_behind part.before) (called caller part) part.run
+
+-- the history before the end of a run begins with that up to the call
+abbrev pub EndFollows : List Filed → Option Run → Type 0
+EndFollows call None = Unit {0}
+EndFollows call (Some run) = StartsWith run.before call
+
+-- the part stands behind the first history
+abbrev pub Stands : ℕ → List Filed → Part → Type 0
+Stands caller first part = StartsWith part.before first × EndFollows (called caller part) part.run
+
+-- the parts stand one behind another in the last history, the first of them behind the first: between their entries and behind them others may stand
+abbrev pub AllStand : ℕ → List Filed → List Filed → List Part → Type 0
+AllStand caller first last [] = StartsWith last first
+AllStand caller first last (part ∷ parts) = Stands caller first part × AllStand caller (behind caller part) last parts
 
 -- ---- what follows a call
 
@@ -73,26 +125,36 @@ EndsBy driven.Failed (GivenUp reason) = reason ≡ why.Failed
 EndsBy driven.GaveUp (Settled entered) = ⊥
 EndsBy driven.GaveUp (GivenUp reason) = reason ≡ why.Pending
 
--- a run drives the order that its call waits for, and ends by its drive
-pub record IsRun (order : Order) (run : Run) : Type 0 where
+-- a run whose call is kept is driven and ended by its drive; one whose call isn't is never driven, but given up for that
+abbrev pub EndsAs : Order → Kept → Option Drive → Ending → Type 0
+EndsAs order kept.Yes (Some drive) ending = EndsWith order drive.driven drive.last × EndsBy drive.driven ending
+EndsAs order kept.Yes None ending = ⊥
+EndsAs order kept.Failed (Some drive) ending = ⊥
+EndsAs order kept.Failed None ending = ending ≡ GivenUp why.Failed
+EndsAs order kept.NoMemory (Some drive) ending = ⊥
+EndsAs order kept.NoMemory None ending = ending ≡ GivenUp why.NoMemory
+
+-- the run of a call that is kept so drives the order that the call waits for, or is given up
+pub record IsRun (order : Order) (mark : Kept) (run : Run) : Type 0 where
   pub of : run.order ≡ order
-  pub last : EndsWith order run.driven run.last
-  pub ends : EndsBy run.driven run.ending
+  pub ends : EndsAs order mark run.drive run.ending
 
 -- what followed a call to which this was said: a run where it waits, and else nothing
-abbrev pub Follows : Said → Option Run → Type 0
-Follows (Waits order) (Some run) = IsRun order run
-Follows (Waits order) None = ⊥
-Follows (Replies reply) (Some run) = ⊥
-Follows (Replies reply) None = Unit {0}
-Follows Silence followed = ⊥
+abbrev pub Follows : Said → Kept → Option Run → Type 0
+Follows (Waits order) mark (Some run) = IsRun order mark run
+Follows (Waits order) mark None = ⊥
+Follows (Replies reply) mark (Some run) = ⊥
+Follows (Replies reply) mark None = Unit {0}
+Follows Silence mark followed = ⊥
 
--- what followed the call of each of these parts, the first of which stands behind this history
-abbrev pub AllFollow : Setup → List Entry → List Part → Type 0
-AllFollow setup history [] = Unit {0}
-AllFollow setup history (part ∷ parts) =
-    Follows (said_to setup history (call_entry 0 part.raw)) part.run
-    × AllFollow setup (history ++ entries_at (length history + 1) part) parts
+-- what followed the call of a part, by what was said to it where it stands
+abbrev pub PartFollows : Setup → ℕ → Part → Type 0
+PartFollows setup caller part = Follows (said_behind setup part.before (call_entry caller part.raw)) part.kept part.run
+
+-- what followed the call of each of these parts
+abbrev pub AllFollow : Setup → ℕ → List Part → Type 0
+AllFollow setup caller [] = Unit {0}
+AllFollow setup caller (part ∷ parts) = PartFollows setup caller part × AllFollow setup caller parts
 
 -- ---- replies
 
@@ -102,16 +164,26 @@ IsReplyOf (Settled ruling) reply = is_ruled reply.status ≡ true
 IsReplyOf (GivenUp reason) reply = reply ≡ park_reply reason
 
 -- the reply to a request: where its call waited, that to the end of its run
-abbrev pub IsReplyTo : Option Run → Reply → Type 0
-IsReplyTo None reply = reply.status ≢ 500
-IsReplyTo (Some run) reply = IsReplyOf run.ending reply
+abbrev pub IsReplyBy : Option Run → Reply → Type 0
+IsReplyBy None reply = reply.status ≢ 500
+IsReplyBy (Some run) reply = IsReplyOf run.ending reply
+
+-- what is said to the last entry of a part, where it stands: behind this history its call, which has this place
+abbrev pub last_said : Setup → ℕ → ℕ → List Filed → Raw → Option Run → Said
+last_said setup caller place before raw None = said_behind setup before (call_entry caller raw)
+last_said setup caller place before raw (Some run) = said_behind setup run.before (end_entry caller place run.ending)
+
+-- the reply to a part is what is said to its last entry, where that stands
+pub record IsReplyTo (setup : Setup) (caller : ℕ) (part : Part) (reply : Reply) : Type 0 where
+  pub said : last_said setup caller (place_behind part.before) part.before part.raw part.run ≡ Replies reply
+  pub replied : IsReplyBy part.run reply
 
 -- these are the replies to these parts, one to each
-abbrev pub AreReplies : List Part → List Reply → Type 0
-AreReplies [] [] = Unit {0}
-AreReplies [] (reply ∷ replies) = ⊥
-AreReplies (part ∷ parts) [] = ⊥
-AreReplies (part ∷ parts) (reply ∷ replies) = IsReplyTo part.run reply × AreReplies parts replies
+abbrev pub AreReplies : Setup → ℕ → List Part → List Reply → Type 0
+AreReplies setup caller [] [] = Unit {0}
+AreReplies setup caller [] (reply ∷ replies) = ⊥
+AreReplies setup caller (part ∷ parts) [] = ⊥
+AreReplies setup caller (part ∷ parts) (reply ∷ replies) = IsReplyTo setup caller part reply × AreReplies setup caller parts replies
 
 -- none of these replies is to a run that was given up while the acquirer's ruling was pending, or since the link failed
 abbrev pub AreNoParks : List Reply → Type 0
@@ -120,14 +192,34 @@ AreNoParks (reply ∷ replies) = (reply.status ≢ 500) × AreNoParks replies
 
 -- ---- asks
 
--- the asks of a run: one for each poll that was granted, pending, and the last one
+-- the asks of a drive for an order: one for each poll that was granted, pending, and the last one
+abbrev pub asks_by : Order → Option Drive → List Ask
+asks_by order None = []
+asks_by order (Some drive) = waits order drive.grants ++ drive.last
+
+-- the asks of a run
 abbrev pub asks_in : Option Run → List Ask
 asks_in None = []
-asks_in (Some run) = waits run.order run.grants ++ run.last
+asks_in (Some run) = asks_by run.order run.drive
 
 -- the asks of parts
 abbrev pub asks_of : List Part → List Ask
 asks_of parts = flat_map (λ part. asks_in part.run) parts
+
+-- the link's decision on the order of a drive is the ruling that ended it, where one did
+abbrev pub DriveDecided : Link → Order → Option Drive → Type 0
+DriveDecided link order None = Unit {0}
+DriveDecided link order (Some drive) = EndsDecided link order drive.driven
+
+-- the same of a run
+abbrev pub RunDecided : Link → Option Run → Type 0
+RunDecided link None = Unit {0}
+RunDecided link (Some run) = DriveDecided link run.order run.drive
+
+-- the same of the run of each of these parts
+abbrev pub AllDecided : Link → List Part → Type 0
+AllDecided link [] = Unit {0}
+AllDecided link (part ∷ parts) = RunDecided link part.run × AllDecided link parts
 
 -- ---- counts
 
@@ -145,30 +237,34 @@ refusals_in (GivenUp why.Pending) = 1
 refusals_in (GivenUp why.Failed) = 0
 refusals_in (GivenUp why.NoMemory) = 0
 
--- a number of a run, where there is one
-abbrev pub in_run : (Run → ℕ) → Option Run → ℕ
-in_run number None = 0
-in_run number (Some run) = number run
+-- a number of a run that was driven, where there is one
+abbrev pub if_driven : (Drive → Ending → ℕ) → Option Drive → Ending → ℕ
+if_driven number None ending = 0
+if_driven number (Some drive) ending = number drive ending
 
--- the sum of a number over the runs of parts
-abbrev pub over_runs : (Run → ℕ) → List Part → ℕ
+abbrev pub in_run : (Drive → Ending → ℕ) → Option Run → ℕ
+in_run number None = 0
+in_run number (Some run) = if_driven number run.drive run.ending
+
+-- the sum of a number over the runs of parts that were driven
+abbrev pub over_runs : (Drive → Ending → ℕ) → List Part → ℕ
 over_runs number [] = 0
 over_runs number (part ∷ parts) = in_run number part.run + over_runs number parts
 
--- how many runs were given up since the link failed, and how many while the ruling was pending; how many polls were granted; how many runs were driven
-abbrev pub failures : Run → ℕ
-failures run = failures_in run.ending
+-- how many runs that were driven were given up since the link failed, and how many while the ruling was pending; how many polls were granted; how many runs were driven
+abbrev pub failures : Drive → Ending → ℕ
+failures drive ending = failures_in ending
 
-abbrev pub refusals : Run → ℕ
-refusals run = refusals_in run.ending
+abbrev pub refusals : Drive → Ending → ℕ
+refusals drive ending = refusals_in ending
 
-abbrev pub grants : Run → ℕ
-grants run = run.grants
+abbrev pub grants : Drive → Ending → ℕ
+grants drive ending = drive.grants
 
-abbrev pub drives : Run → ℕ
-drives run = 1
+abbrev pub drives : Drive → Ending → ℕ
+drives drive ending = 1
 
--- ---- want of memory
+-- ---- want of memory, and entries that aren't kept
 
 abbrev pub is_out_in : Ending → Bool
 is_out_in (Settled ruling) = false
@@ -181,15 +277,36 @@ abbrev pub is_out : Option Run → Bool
 is_out None = false
 is_out (Some run) = is_out_in run.ending
 
--- no run of these parts was given up for want of memory
-abbrev pub AllHadMemory : List Part → Type 0
-AllHadMemory [] = Unit {0}
-AllHadMemory (part ∷ parts) = (is_out part.run ≡ false) × AllHadMemory parts
+-- the mark of the end of a run, where there is one
+abbrev pub end_mark : Option Run → Kept
+end_mark None = kept.Yes
+end_mark (Some run) = run.kept
 
--- the run of the last part was given up for want of memory, and no other
-pub record LastIsOut (parts : List Part) : Type 0 where
+-- of the marks of a call and of the end of its run the first that isn't Yes, where there is one
+abbrev pub first_mark : Kept → Kept → Kept
+first_mark kept.Yes mark = mark
+first_mark kept.Failed mark = kept.Failed
+first_mark kept.NoMemory mark = kept.NoMemory
+
+abbrev pub mark_of : Part → Kept
+mark_of part = first_mark part.kept (end_mark part.run)
+
+-- the entries of a part are kept, and its run wasn't given up for want of memory: the session may go on
+pub record IsWell (part : Part) : Type 0 where
+  pub marked : mark_of part ≡ kept.Yes
+  pub had_memory : is_out part.run ≡ false
+
+abbrev pub AllWell : List Part → Type 0
+AllWell [] = Unit {0}
+AllWell (part ∷ parts) = IsWell part × AllWell parts
+
+-- each entry of these parts is kept
+abbrev pub AllKept : List Part → Type 0
+AllKept [] = Unit {0}
+AllKept (part ∷ parts) = (mark_of part ≡ kept.Yes) × AllKept parts
+
+-- of these parts the last is this one, and the session might have gone on behind each other
+pub record LastIs (parts : List Part) (last : Part) : Type 0 where
   pub before : List Part
-  pub last : Part
   pub all : parts ≡ before ++ last ∷ []
-  pub had_memory : AllHadMemory before
-  pub out : is_out last.run ≡ true
+  pub well : AllWell before

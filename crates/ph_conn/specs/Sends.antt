@@ -33,15 +33,17 @@ Closes status replies (Err fault.ReadFault) old new = ⊥
 Closes status replies (Err fault.Cut) old new = ⊥
 Closes status replies (Err fault.NoMemory) old new = ⊥
 Closes status replies (Err fault.Full) old new = ⊥
+Closes status replies (Err fault.KeepFault) old new = ⊥
 
 -- the reply has a status that replies are written with
 abbrev pub IsWritable : Outcome → Type 0
 IsWritable (outcome.Reply reply) = IsTrue (is_status reply.status)
 IsWritable outcome.Parked = Unit {0}
+IsWritable (outcome.Unkept why) = Unit {0}
 IsWritable outcome.Full = Unit {0}
 IsWritable outcome.NoMemory = Unit {0}
 
--- the reply was written whole, or a front of it up to a write that failed, or nothing for want of memory; a request that wasn't entered got last words, and so did one whose run was given up for want of memory
+-- the reply was written whole, or a front of it up to a write that failed, or nothing for want of memory; a request that wasn't entered got last words, and so did one whose run was given up for want of memory; one of which an entry isn't kept got nothing
 abbrev pub Sends : Outcome → Bool → Result ⊤ TalkError → SinkState → SinkState → Type 0
 Sends (outcome.Reply reply) last (Ok done) old new = Takes old new (rendered reply last)
 Sends (outcome.Reply reply) last (Err fault.WriteFault) old new = TakesFront old new (rendered reply last)
@@ -49,8 +51,11 @@ Sends (outcome.Reply reply) last (Err fault.NoMemory) old new = new ≡ old
 Sends (outcome.Reply reply) last (Err fault.ReadFault) old new = ⊥
 Sends (outcome.Reply reply) last (Err fault.Cut) old new = ⊥
 Sends (outcome.Reply reply) last (Err fault.Full) old new = ⊥
+Sends (outcome.Reply reply) last (Err fault.KeepFault) old new = ⊥
 Sends outcome.Parked last (Ok done) old new = ⊥
 Sends outcome.Parked last (Err why) old new = PartsOut why old new
+Sends (outcome.Unkept why) last (Ok done) old new = ⊥
+Sends (outcome.Unkept why) last (Err got) old new = (got ≡ why) × (new ≡ old)
 Sends outcome.Full last (Ok done) old new = ⊥
 Sends outcome.Full last (Err why) old new = Parts fixed.HistoryFull fault.Full why old new
 Sends outcome.NoMemory last (Ok done) old new = ⊥

@@ -1,13 +1,19 @@
 //! One request: its call, and the run of it.
-ghost use Rattle.ph_book.specs.Tickets.{Holds};
-ghost use Rattle.ph_conn.specs.Answers.{Answers, Calls, Ended, Finishes, Settles};
+ghost use Rattle.std.specs.Prelude.{IfErr};
+ghost use Rattle.ph_conn.specs.Answers.{Answers, Calls, Comes, Ended, Finishes, Settles};
+ghost use Rattle.ph_conn.specs.Fronts.{MayDo};
 ghost use Rattle.ph_conn.specs.Parts.{GivenUp};
+ghost use Rattle.ph_base.specs.declared.acquirer.Ruling.{Ruling};
+ghost use Rattle.ph_book.specs.declared.acts.Act.{Act};
 
+use crate::desks::Desk;
+use crate::endings::TalkError;
 use ph_attempts::Ticket;
 use ph_bank::{Acquirer, Driven, Patience, drive};
 use ph_base::{Ruling, Why};
-use ph_book::{Act, Answer, Book, Refused, runs_follow};
+use ph_book::{Act, Answer, Kept};
 use ph_http::{Raw, Reply};
+use ph_lock::Refused;
 
 /// What became of a request.
 #[derive(Drop)]
@@ -17,7 +23,9 @@ pub enum Outcome {
     /// It was entered and waited, and there was no memory for the ruling: its run was given up. The reply is 503
     /// `no_memory`.
     Parked,
-    /// The book had no room for it. It isn't entered.
+    /// It was entered, and an entry of it isn't kept: it gets no reply, and the session breaks off for this reason.
+    Unkept(TalkError),
+    /// The history had no room for it. It isn't entered.
     Full,
     /// There was no memory for it. It isn't entered.
     NoMemory,
@@ -26,50 +34,65 @@ pub enum Outcome {
 /// What became of the call of a request.
 pub enum Called {
     /// It was entered, and this is its reply.
-    Replied(Reply),
+    Replied(Reply, Kept),
     /// It was entered, and waits for a ruling.
-    Waiting(Ticket),
-    /// The book had no room for it.
+    Waiting(Ticket, Kept),
+    /// The history had no room for it.
     Full,
     /// There was no memory for it.
     NoMemory,
 }
 
-/// Enters a request as a call of caller 0. Where it waits for a ruling, the acquirer is asked while patience lasts, and
-/// the ruling is entered, or the run given up; for want of memory for the ruling it is given up too.
-pub fn answer<A: Acquirer, P: Patience>(
-    book: &mut Book,
+/// Enters a request as a call. Where it waits for a ruling, the acquirer is asked while patience lasts, and the ruling is
+/// entered, or the run given up; for want of memory for the ruling it is given up too. Where the call isn't kept, nothing
+/// is asked, and the run is given up.
+pub fn answer<D: Desk, A: Acquirer, P: Patience>(
+    desk: &D,
+    held: &mut D::Held,
     link: &mut A,
     patience: &mut P,
     raw: Raw,
 ) -> Outcome
-    ensures { Answers (record { book = book.old; link = A.link link.old; counts = P.counts patience.old })
-        (record { book = book.new; link = A.link link.new; counts = P.counts patience.new }) raw result }
+    requires fits { D.fits desk.now held.old }
+    ensures fits { D.fits desk.now held.new }
+    ensures becomes { D.becomes held.old held.new }
+    ensures answers { Answers (record { known = D.known held.old; link = A.link link.old; counts = P.counts patience.old })
+        (record { known = D.known held.new; link = A.link link.new; counts = P.counts patience.new }) raw result }
 {
-    match call(book, raw) {
-        Called::Replied(reply) => Outcome::Reply(reply),
-        Called::Waiting(ticket) => {
-            let driven = drive(&ticket, link, patience);
-            settle(book, ticket, driven)
-        }
+    match call(desk, held, raw) {
+        Called::Replied(reply, kept) => comes(reply, kept),
+        Called::Waiting(ticket, kept) => match kept {
+            Kept::Yes => {
+                let driven = drive(&ticket, link, patience);
+                settle(desk, held, ticket, driven)
+            }
+            Kept::Failed => {
+                let _ = park(desk, held, ticket, Why::Failed);
+                Outcome::Unkept(TalkError::KeepFault)
+            }
+            Kept::NoMemory => {
+                let _ = park(desk, held, ticket, Why::NoMemory);
+                Outcome::Unkept(TalkError::NoMemory)
+            }
+        },
         Called::Full => Outcome::Full,
         Called::NoMemory => Outcome::NoMemory,
     }
 }
 
 // Enters a call.
-#[tactic(auto, using(crate::proofs::LiveLemmas::live_answered, crate::proofs::LiveLemmas::live_begun))]
-fn call(book: &mut Book, raw: Raw) -> Called
-    ensures { Calls book.old book.new raw result }
+fn call<D: Desk>(desk: &D, held: &mut D::Held, raw: Raw) -> Called
+    requires fits { D.fits desk.now held.old }
+    ensures fits { D.fits desk.now held.new }
+    ensures becomes { D.becomes held.old held.new }
+    ensures calls { Calls (D.known held.old) (D.known held.new) raw result }
 {
-    runs_follow(book.setup(), book.history());
-    match book.apply(0, Act::Call(raw)) {
-        Ok(Answer::Reply(reply)) => {
-            let _ = book.history();
-            Called::Replied(reply)
-        }
-        Ok(Answer::Wait(ticket)) => Called::Waiting(ticket),
-        Ok(Answer::Done) => unreachable!(),
+    match desk.enter(held, Act::Call(raw)) {
+        Ok((answer, kept)) => match answer {
+            Answer::Reply(reply) => Called::Replied(reply, kept),
+            Answer::Wait(ticket) => Called::Waiting(ticket, kept),
+            Answer::Done => unreachable!(),
+        },
         Err((act, why)) => {
             let Act::Call(_) = act else { unreachable!() };
             match why {
@@ -80,38 +103,68 @@ fn call(book: &mut Book, raw: Raw) -> Called
     }
 }
 
+// What a reply comes to: where its entry isn't kept, it isn't given.
+fn comes(reply: Reply, kept: Kept) -> Outcome
+    ensures { Comes reply kept result }
+{
+    match kept {
+        Kept::Yes => Outcome::Reply(reply),
+        Kept::Failed => Outcome::Unkept(TalkError::KeepFault),
+        Kept::NoMemory => Outcome::Unkept(TalkError::NoMemory),
+    }
+}
+
 // Ends the run of a ticket by its drive.
-fn settle(book: &mut Book, ticket: Ticket, driven: Driven) -> Outcome
-    requires own { Holds book.old.setup book.old.history 0 ticket }
-    ensures { Settles book.old book.new ticket driven result }
+fn settle<D: Desk>(desk: &D, held: &mut D::Held, ticket: Ticket, driven: Driven) -> Outcome
+    requires fits { D.fits desk.now held.old }
+    requires own { (ruling : Ruling) → MayDo (D.known held.old) (Act.Finish ticket ruling) }
+    ensures fits { D.fits desk.now held.new }
+    ensures becomes { D.becomes held.old held.new }
+    ensures settles { Settles (D.known held.old) (D.known held.new) ticket driven result }
 {
     match driven {
-        Driven::Ready(ruling) => match finish(book, ticket, ruling) {
-            Ok(reply) => Outcome::Reply(reply),
+        Driven::Ready(ruling) => match finish(desk, held, ticket, ruling) {
+            Ok((reply, kept)) => comes(reply, kept),
             Err(ticket) => {
-                let _ = park(book, ticket, Why::NoMemory);
-                Outcome::Parked
+                let (_, kept) = park(desk, held, ticket, Why::NoMemory);
+                match kept {
+                    Kept::Yes => Outcome::Parked,
+                    Kept::Failed => Outcome::Unkept(TalkError::NoMemory),
+                    Kept::NoMemory => Outcome::Unkept(TalkError::NoMemory),
+                }
             }
         },
-        Driven::Failed => Outcome::Reply(park(book, ticket, Why::Failed)),
-        Driven::GaveUp => Outcome::Reply(park(book, ticket, Why::Pending)),
+        Driven::Failed => {
+            let (reply, kept) = park(desk, held, ticket, Why::Failed);
+            comes(reply, kept)
+        }
+        Driven::GaveUp => {
+            let (reply, kept) = park(desk, held, ticket, Why::Pending);
+            comes(reply, kept)
+        }
     }
 }
 
 // Enters a ruling on the order of a ticket's run. Where there is no memory, the ticket comes back.
-#[tactic(auto, using(crate::proofs::LiveLemmas::live_ended))]
-fn finish(book: &mut Book, ticket: Ticket, ruling: Ruling) -> Result<Reply, Ticket>
-    requires own { Holds book.old.setup book.old.history 0 ticket }
-    ensures { Finishes book.old book.new ticket ruling result }
+fn finish<D: Desk>(
+    desk: &D,
+    held: &mut D::Held,
+    ticket: Ticket,
+    ruling: Ruling,
+) -> Result<(Reply, Kept), Ticket>
+    requires fits { D.fits desk.now held.old }
+    requires own { MayDo (D.known held.old) (Act.Finish ticket ruling) }
+    ensures fits { D.fits desk.now held.new }
+    ensures becomes { D.becomes held.old held.new }
+    ensures finishes { Finishes (D.known held.old) (D.known held.new) ticket ruling result }
+    ensures still { IfErr result (λ _. MayDo (D.known held.new) (Act.Finish ticket ruling)) }
 {
-    runs_follow(book.setup(), book.history());
-    match book.apply(0, Act::Finish(ticket, ruling)) {
-        Ok(answer) => {
+    match desk.enter(held, Act::Finish(ticket, ruling)) {
+        Ok((answer, kept)) => {
             let Answer::Reply(reply) = answer else {
                 unreachable!()
             };
-            let _ = book.history();
-            Ok(reply)
+            Ok((reply, kept))
         }
         Err((act, _)) => {
             let Act::Finish(ticket, _) = act else {
@@ -122,18 +175,20 @@ fn finish(book: &mut Book, ticket: Ticket, ruling: Ruling) -> Result<Reply, Tick
     }
 }
 
-// Gives up the run of a ticket. A book never refuses that.
-#[tactic(auto, using(crate::proofs::LiveLemmas::live_ended))]
-fn park(book: &mut Book, ticket: Ticket, why: Why) -> Reply
-    requires own { Holds book.old.setup book.old.history 0 ticket }
-    ensures { Ended book.old book.new ticket (GivenUp why) result }
+// Gives up the run of a ticket. That is never refused.
+fn park<D: Desk>(desk: &D, held: &mut D::Held, ticket: Ticket, why: Why) -> (Reply, Kept)
+    requires fits { D.fits desk.now held.old }
+    requires own { MayDo (D.known held.old) (Act.Park ticket why) }
+    ensures fits { D.fits desk.now held.new }
+    ensures becomes { D.becomes held.old held.new }
+    ensures ended { Ended (D.known held.old) (D.known held.new) ticket (GivenUp why) result.0 result.1 }
 {
-    runs_follow(book.setup(), book.history());
-    let entered = book.apply(0, Act::Park(ticket, why));
-    let Ok(answer) = entered else { unreachable!() };
+    let entered = desk.enter(held, Act::Park(ticket, why));
+    let Ok((answer, kept)) = entered else {
+        unreachable!()
+    };
     let Answer::Reply(reply) = answer else {
         unreachable!()
     };
-    let _ = book.history();
-    reply
+    (reply, kept)
 }

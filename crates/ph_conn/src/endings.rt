@@ -3,7 +3,7 @@
 /// What a session did that wasn't broken off.
 #[derive(Clone, Copy, Debug, PartialEq, Eq)]
 pub struct Closed {
-    /// How many requests were answered by the book.
+    /// How many requests were entered and answered.
     pub replies: u64,
     /// Why it stopped.
     pub stop: Stop,
@@ -31,8 +31,12 @@ pub enum TalkError {
     WriteFault,
     /// The source ended within a request. The replies before it stand.
     Cut,
-    /// There was no memory. Where a run was given up for want of it, a write of the last reply may have failed too.
+    /// There was no memory, here or in the store behind the history. Where a run was given up for want of it, a write of
+    /// the last reply may have failed too.
     NoMemory,
+    /// An entry isn't kept by the store behind the history, which failed. The request that it is of gets no reply. This
+    /// never comes of a book alone.
+    KeepFault,
     /// The history had no room for a request. It was answered by 503 `history_full`, and isn't entered.
     Full,
 }

@@ -29,7 +29,8 @@ pub enum Fetched {
 /// Reads until an item is there, in pieces of at most 4,096 bytes.
 pub fn fetch<S: Source>(talk: &mut Talk, input: &mut S) -> Fetched
     requires open { talk.old.ended ≡ false }
-    ensures { Fetches talk.old talk.new result (S.source input.old) (S.source input.new) }
+    ensures fetches { Fetches talk.old talk.new result (S.source input.old) (S.source input.new) }
+    ensures beside { S.beside_source input.new ≡ S.beside_source input.old }
 {
     let mut room = [0; 4096];
     loop {

@@ -1,4 +1,4 @@
-//! What a session writes that isn't a reply of its book.
+//! What a session writes that isn't a reply of its history.
 ghost use Rattle.std.specs.Prelude.{◌≡◌, ◌++◌, IsTrue, None, OnErr, OnOk, is_some};
 ghost use Rattle.ph_errors.specs.Body.{body_of};
 ghost use Rattle.ph_errors.specs.Fixed.{closing_of, problem_of};
@@ -14,6 +14,7 @@ use ph_io::{Sink, WriteFailed, write_all};
 /// Writes the line `HTTP/1.1 100 Continue`, where a request waits for it.
 #[tactic(auto, unfolding(crate::specs::Texts::continue_line))]
 pub fn announce<K: Sink>(output: &mut K, continues: bool) -> Result<(), WriteFailed>
+    ensures beside { K.beside_sink output.new ≡ K.beside_sink output.old }
     ensures all { OnOk result (Takes (K.sink output.old) (K.sink output.new) (line_for continues)) }
     ensures front { OnErr result (TakesFront (K.sink output.old) (K.sink output.new) (line_for continues)) }
 {
@@ -26,7 +27,8 @@ pub fn announce<K: Sink>(output: &mut K, continues: bool) -> Result<(), WriteFai
 /// Writes the closing reply of this status, behind so many replies.
 pub fn close<K: Sink>(output: &mut K, status: u16, replies: u64) -> Result<Closed, TalkError>
     requires closing { IsTrue (is_some (closing_of status)) }
-    ensures { Closes status replies result (K.sink output.old) (K.sink output.new) }
+    ensures beside { K.beside_sink output.new ≡ K.beside_sink output.old }
+    ensures closes { Closes status replies result (K.sink output.old) (K.sink output.new) }
 {
     let Some(fixed) = Fixed::closing(status) else {
         unreachable!()
@@ -42,7 +44,8 @@ pub fn close<K: Sink>(output: &mut K, status: u16, replies: u64) -> Result<Close
 
 /// Writes a fixed error as the last reply of a session that breaks off, and answers why it does.
 pub fn part<K: Sink>(output: &mut K, fixed: Fixed, why: TalkError) -> TalkError
-    ensures { Parts fixed why result (K.sink output.old) (K.sink output.new) }
+    ensures beside { K.beside_sink output.new ≡ K.beside_sink output.old }
+    ensures parts { Parts fixed why result (K.sink output.old) (K.sink output.new) }
 {
     match say(output, fixed) {
         Ok(()) => why,
@@ -53,7 +56,8 @@ pub fn part<K: Sink>(output: &mut K, fixed: Fixed, why: TalkError) -> TalkError
 /// Writes 503 `no_memory` as the reply to a run that was given up for want of memory, as far as that goes. The park
 /// stands in the history, so the session breaks off for want of memory where the write fails too.
 pub fn part_out<K: Sink>(output: &mut K) -> TalkError
-    ensures { PartsOut result (K.sink output.old) (K.sink output.new) }
+    ensures beside { K.beside_sink output.new ≡ K.beside_sink output.old }
+    ensures parts { PartsOut result (K.sink output.old) (K.sink output.new) }
 {
     match say(output, Fixed::NoMemory) {
         Ok(()) => TalkError::NoMemory,
@@ -63,6 +67,7 @@ pub fn part_out<K: Sink>(output: &mut K) -> TalkError
 
 // Writes a fixed error as the last reply of a session. It takes no memory.
 fn say<K: Sink>(output: &mut K, fixed: Fixed) -> Result<(), WriteFailed>
+    ensures beside { K.beside_sink output.new ≡ K.beside_sink output.old }
     ensures all { OnOk result (Takes (K.sink output.old) (K.sink output.new) (last_words fixed)) }
     ensures front { OnErr result (TakesFront (K.sink output.old) (K.sink output.new) (last_words fixed)) }
 {

@@ -16,3 +16,4 @@ pub mod EndLemmas
 pub mod FoundRuns
 pub mod RecordLemmas
 pub mod Coming
+pub mod Others

@@ -4,8 +4,9 @@ use Rattle.ph_io.specs.Told.{SourceState, SinkState}
 use Rattle.ph_bank.specs.Links.{Link}
 use Rattle.ph_bank.specs.Patiences.{Granted}
 use Rattle.ph_book.specs.State.{BookState}
-use Rattle.ph_conn.specs.Desks.{Desk}
-use Rattle.ph_conn.specs.Session.{Session}
+use Rattle.ph_conn.specs.Fronts.{known_alone}
+use Rattle.ph_conn.specs.Means.{Means}
+use Rattle.ph_conn.specs.Session.{SoloSession}
 use Rattle.ph_conn.specs.declared.endings.Closed.{Closed}
 use Rattle.ph_conn.specs.declared.endings.Stop.{Stop}
 use Rattle.ph_conn.specs.declared.endings.Stop.TheVariants as stop
@@ -24,7 +25,7 @@ stop_status stop.Asked = 0
 stop_status stop.Limit = 1
 stop_status (stop.Refused status) = 1
 
--- the status of each ending: 3 for a read that failed, 4 for a write that failed, 5 for an input that ends within a request, 6 for want of memory, 9 for a full history
+-- the status of each ending: 3 for a read that failed, 4 for a write that failed, 5 for an input that ends within a request, 6 for want of memory, 9 for a full history; a book keeps each entry, so none ends for one that isn't kept
 abbrev pub status_of : Result Closed TalkError → ℕ
 status_of (Ok closed) = stop_status closed.stop
 status_of (Err fault.ReadFault) = 3
@@ -32,23 +33,24 @@ status_of (Err fault.WriteFault) = 4
 status_of (Err fault.Cut) = 5
 status_of (Err fault.NoMemory) = 6
 status_of (Err fault.Full) = 9
+status_of (Err fault.KeepFault) = 6
 
 -- the book that a session begins with: the setup of the words, and no entries
 abbrev pub new_book : List (List ℕ) → BookState
 new_book words = record { setup = setup_of words; history = [] }
 
 -- what that session begins with: the new book, and link and patience as they are
-abbrev pub new_desk : List (List ℕ) → Link → Granted → Desk
-new_desk words link counts = record { book = new_book words; link = link; counts = counts }
+abbrev pub new_means : List (List ℕ) → Link → Granted → Means
+new_means words link counts = record { known = known_alone (new_book words); link = link; counts = counts }
 
 -- one session was served from an empty history on, and its ending gives the status
 pub record Runs (words : List (List ℕ)) (status : ℕ) (link0 link1 : Link) (counts0 counts1 : Granted) (input0 input1 : SourceState) (output0 output1 : SinkState) : Type 0 where
   pub ending : Result Closed TalkError
   pub book : BookState
   pub status_is : status ≡ status_of ending
-  pub session : Session ending session_limit (new_desk words link0 counts0) (record { book = book; link = link1; counts = counts1 }) input0 input1 output0 output1
+  pub session : SoloSession ending session_limit (new_means words link0 counts0) (record { known = known_alone book; link = link1; counts = counts1 }) input0 input1 output0 output1
 
 -- the session that was served broke off at a request for which the book has no room
 pub record EndsFull (words : List (List ℕ)) (link0 link1 : Link) (counts0 counts1 : Granted) (input0 input1 : SourceState) (output0 output1 : SinkState) : Type 0 where
   pub book : BookState
-  pub session : Session (Err fault.Full) session_limit (new_desk words link0 counts0) (record { book = book; link = link1; counts = counts1 }) input0 input1 output0 output1
+  pub session : SoloSession (Err fault.Full) session_limit (new_means words link0 counts0) (record { known = known_alone book; link = link1; counts = counts1 }) input0 input1 output0 output1

@@ -140,7 +140,8 @@ fn status(ending: Result<Closed, TalkError>) -> u8
         Err(TalkError::ReadFault) => 3,
         Err(TalkError::WriteFault) => 4,
         Err(TalkError::Cut) => 5,
-        Err(TalkError::NoMemory) => 6,
+        // A book keeps each entry, so no session over one ends with KeepFault.
+        Err(TalkError::NoMemory | TalkError::KeepFault) => 6,
         Err(TalkError::Full) => 9,
     }
 }

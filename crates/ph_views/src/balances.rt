@@ -58,8 +58,8 @@ fn currencies<V: View>(alloc: Global, view: &V, account: u64) -> Result<Vec<Curr
     Ok(list)
 }
 
-// Whether an account has transactions in a currency.
-fn has_txns<V: View>(view: &V, account: u64, currency: Currency) -> bool
+/// Whether an account has transactions in a currency.
+pub fn has_txns<V: View>(view: &V, account: u64, currency: Currency) -> bool
     ensures { result ≡ has_txns account (V.state view.now).rows currency }
 {
     for at in 0..view.count() {

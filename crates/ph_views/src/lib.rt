@@ -16,6 +16,7 @@ mod transactions;
 mod transfers;
 mod values;
 
-pub use balances::balance_doc;
+pub use balances::{balance_doc, has_txns};
 pub use clocks::clock_doc;
 pub use item_docs::{item_doc, item_text};
+pub use values::printed_id;

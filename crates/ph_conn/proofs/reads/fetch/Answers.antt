@@ -20,8 +20,8 @@ unreachable-requires-in-Ok-Cut g c =
     let gives = rw c.in-Ok-Cut.field-0-is at c.in-Ok-Cut.ensures.ok in
     (no_end c.loop-raw.talk (still c.loop-raw.invariant.reading) c.loop-raw.talk).1 gives.0
 
-pub returns-in-Err-feed : goal.returns-in-Err-feed
-returns-in-Err-feed g c =
+pub returns-in-Err-feed-clause-fetches : goal.returns-in-Err-feed-clause-fetches
+returns-in-Err-feed-clause-fetches g c =
     let reading = c.loop-raw.invariant.reading in
     let some : 0 < c.in-Ok.n = omega arith in
     record {

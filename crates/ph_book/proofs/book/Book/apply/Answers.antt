@@ -2,21 +2,23 @@ use Rattle.std.proofs.Common.{◌≡◌, false, sym, subst, IsTrue}
 use Rattle.ph_http.specs.declared.message.Reply.{Reply}
 use Rattle.ph_http.specs.Replies.{is_status}
 use Rattle.ph_book.specs.declared.acts.Act.{Act}
+use Rattle.ph_book.specs.declared.acts.Act.TheVariants as act
 use Rattle.ph_book.specs.declared.acts.Answer.TheVariants as answer
 use Rattle.ph_book.specs.Answers.{IsAnswerTo}
 use Rattle.ph_book.specs.Entries.{deed_of, finish_entry, park_entry, tick_entry}
 use Rattle.ph_book.specs.Legal.{is_full}
+use Rattle.ph_book.specs.Tickets.{SpendsOwn}
 use Rattle.ph_book.proofs.ReplyLemmas.{park_status, ruled_status, says_reply, says_silence}
-use Rattle.ph_book.proofs.HistoryLemmas.{has_room, replies_grow}
+use Rattle.ph_book.proofs.HistoryLemmas.{has_room, lawful_entered, replies_grow}
 use Rattle.ph_book.proofs.StepLemmas.{finish_room, park_room}
 use Rattle.ph_book.proofs.book.Book.apply.Goals as goal
 
 pub returns-in-Ok-clause-kind : goal.returns-in-Ok-clause-kind
-returns-in-Ok-clause-kind c = subst (λ (act : Act). IsAnswerTo act c.in-Ok.answer) (sym c.in-Call.is) c.in-Ok.ensures.kind
+returns-in-Ok-clause-kind c = subst (λ (act : Act). IsAnswerTo (deed_of act) c.in-Ok.answer) (sym c.in-Call.is) c.in-Ok.ensures.kind
 
 pub returns-in-Ok-finish-clause-kind : goal.returns-in-Ok-finish-clause-kind
 returns-in-Ok-finish-clause-kind c =
-    subst (λ (act : Act). IsAnswerTo act (answer.Reply c.in-Ok-finish.reply)) (sym c.in-Finish.is) c.in-Ok-finish.ensures.ruled
+    subst (λ (act : Act). IsAnswerTo (deed_of act) (answer.Reply c.in-Ok-finish.reply)) (sym c.in-Finish.is) c.in-Ok-finish.ensures.ruled
 
 pub returns-in-Ok-finish-clause-status : goal.returns-in-Ok-finish-clause-status
 returns-in-Ok-finish-clause-status c = ruled_status c.in-Ok-finish.reply.status c.in-Ok-finish.ensures.ruled
@@ -25,6 +27,11 @@ pub returns-in-Ok-finish-clause-replies : goal.returns-in-Ok-finish-clause-repli
 returns-in-Ok-finish-clause-replies c =
     replies_grow c.args.self.now c.finish.new.self 0 c.args.caller (finish_entry c.args.caller c.in-Finish.ticket c.in-Finish.ruling) (answer.Reply c.in-Ok-finish.reply)
     c.in-Ok-finish.ensures.entry (says_reply 0 c.args.caller _ c.in-Ok-finish.reply c.in-Ok-finish.ensures.said)
+
+pub returns-in-Ok-finish-clause-lawful : goal.returns-in-Ok-finish-clause-lawful
+returns-in-Ok-finish-clause-lawful c =
+    lawful_entered c.args.self.now c.finish.new.self c.args.caller (act.Finish c.in-Finish.ticket c.in-Finish.ruling) c.lawful.ensures c.requires.caller
+    (subst (SpendsOwn c.args.self.now.setup c.args.self.now.history c.args.caller) c.in-Finish.is c.requires.own) tt (finish_room _ _ _ _) c.in-Ok-finish.ensures.entry
 
 pub returns-in-Ok-finish-clause-room : goal.returns-in-Ok-finish-clause-room
 returns-in-Ok-finish-clause-room c =
@@ -41,6 +48,11 @@ pub returns-in-Park-clause-replies : goal.returns-in-Park-clause-replies
 returns-in-Park-clause-replies c =
     replies_grow c.args.self.now c.park.new.self 0 c.args.caller (park_entry c.args.caller c.in-Park.ticket c.in-Park.why) (answer.Reply c.park.result)
     c.park.ensures.entry (says_reply 0 c.args.caller _ c.park.result c.park.ensures.said)
+
+pub returns-in-Park-clause-lawful : goal.returns-in-Park-clause-lawful
+returns-in-Park-clause-lawful c =
+    lawful_entered c.args.self.now c.park.new.self c.args.caller (act.Park c.in-Park.ticket c.in-Park.why) c.lawful.ensures c.requires.caller
+    (subst (SpendsOwn c.args.self.now.setup c.args.self.now.history c.args.caller) c.in-Park.is c.requires.own) tt (park_room _ _ _ _) c.park.ensures.entry
 
 pub returns-in-Park-clause-room : goal.returns-in-Park-clause-room
 returns-in-Park-clause-room c =
