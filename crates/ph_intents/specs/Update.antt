@@ -1,5 +1,5 @@
 -- The update.
-use Rattle.std.specs.Prelude.{ℕ, Bool, true, false, ◌==◌, ◌||◌, nat_lt, if◌then◌else◌, List, length, unwrap_or, codes}
+use Rattle.std.specs.Prelude.{ℕ, Bool, true, false, ◌==◌, ◌||◌, nat_lt, if◌then◌else◌, List, length, Option, unwrap_or, codes}
 use Rattle.std.specs.Option.{is_some, option_or}
 use Rattle.ph_calls.specs.declared.call.UpdateIntent.{UpdateIntent}
 use Rattle.ph_facts.specs.Outcomes.{Outcome, Refuses, Adds}
