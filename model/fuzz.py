@@ -39,7 +39,8 @@ METADATA = ["metadata[a]=1", "metadata[b]=2", "metadata[a]=", "metadata=", "meta
 STRANGE = ["foo=1", "expand[]=latest_charge", "expand=x", "submit=true", "return_url[a][b]=1", "off_session=x",
            "a[=1", "[a]=1", "a[b][c][d][e][f]=1", "amount=2000", "amount[]=1", "&&", "=", "currency[a]=usd", "a]=1",
            "b[]=1&b[0]=2"]
-PREFIXES = ["pi_", "pi_", "ch_", "ch_", "dp_", "re_", "txn_", "evt_", "acct_", "PI_"]
+PREFIXES = ["pi_", "pi_", "ch_", "ch_", "dp_", "re_", "txn_", "evt_", "acct_", "py_", "tr_", "fee_", "PI_"]
+FEES = ["0", "1", "100", "100", "500", "2000", "2001", "99999999"]
 
 
 class Session:
@@ -88,6 +89,8 @@ class Session:
             (0.1, f"description={self.one(TEXTS)}"),
             (0.2, f"metadata[{self.one('abc')}]={self.one(TEXTS)}"),
             (0.1, f"transfer_group={self.one(TEXTS)}"),
+            (0.3, f"application_fee_amount={self.one(FEES[:5])}"),
+            (0.3, f"transfer_data[destination]={self.identity('acct_')}"),
         ])
 
     def create(self):
@@ -102,6 +105,15 @@ class Session:
             (0.2, self.one(METADATA)),
             (0.1, f"transfer_group={self.one(TEXTS)}"),
             (0.05, f"automatic_payment_methods[enabled]={self.one(TRUTHS)}"),
+            (0.1, f"application_fee_amount={self.one(FEES if self.likely(0.8) else AMOUNTS)}"),
+            (0.1, f"transfer_data[destination]={self.identity('acct_')}"),
+        ])
+
+    def account(self):
+        return "POST", "/v1/accounts", self.form([
+            (0.4, f"type={self.one(['standard', 'express', 'custom', 'Custom'])}"),
+            (0.3, f"email={self.one(TEXTS)}"),
+            (0.3, self.one(METADATA)),
         ])
 
     def update(self):
@@ -113,6 +125,7 @@ class Session:
             (0.5, self.one(METADATA)),
             (0.3, self.one(METADATA)),
             (0.2, f"transfer_group={self.one(TEXTS)}"),
+            (0.2, f"application_fee_amount={self.one(FEES if self.likely(0.8) else AMOUNTS)}"),
         ])
 
     def confirm(self):
@@ -123,6 +136,7 @@ class Session:
     def capture(self):
         return "POST", f"/v1/payment_intents/{self.identity('pi_')}/capture", self.form([
             (0.6, f"amount_to_capture={self.one(AMOUNTS)}"),
+            (0.3, f"application_fee_amount={self.one(FEES)}"),
         ])
 
     def cancel(self):
@@ -158,7 +172,8 @@ class Session:
 
     def get(self):
         kind, prefix = self.one([("payment_intents", "pi_"), ("charges", "ch_"), ("charges", "ch_"), ("refunds", "re_"),
-                                 ("disputes", "dp_"), ("balance_transactions", "txn_")])
+                                 ("disputes", "dp_"), ("balance_transactions", "txn_"), ("accounts", "acct_"),
+                                 ("charges", "py_"), ("transfers", "tr_"), ("application_fees", "fee_")])
         return "GET", f"/v1/{kind}/{self.identity(prefix)}", self.form([])
 
     def balance(self):
@@ -172,6 +187,7 @@ class Session:
     def call(self):
         """A method, a target and a form. Calls on objects of a kind come once one was seen, mostly."""
         calls = [(self.payment, "", 4), (self.create, "", 1), (self.balance, "", 1), (self.clock, "", 1),
+                 (self.account, "", 1),
                  (self.get, "pi_", 4), (self.update, "pi_", 2), (self.confirm, "pi_", 3), (self.capture, "pi_", 3),
                  (self.cancel, "pi_", 1), (self.authenticate, "pi_", 3), (self.refund, "ch_", 5),
                  (self.evidence, "dp_", 2), (self.close, "dp_", 1)]
@@ -186,8 +202,17 @@ class Session:
         """The lines of a request."""
         method, target, form = self.call()
         headers = ["key"] if self.likely(0.98) else [self.one(["", "Authorization: Bearer x", "Authorization: key"])]
-        headers += self.header()
+        headers += self.header() + self.owner()
         return [f"> {method} {target}"] + [line for line in headers if line] + ["", form]
+
+    def owner(self):
+        """The line that names an account, once one was made, now and then."""
+        made = self.connected()
+        return [f"Stripe-Account: {self.one(made)}"] if made and self.likely(0.3) else []
+
+    def connected(self):
+        """The accounts that were made."""
+        return sorted({text for text in self.seen if text.startswith("acct_") and not text.endswith("001")})
 
     def header(self):
         if self.likely(0.85):
@@ -338,10 +363,12 @@ def history_step(chance, session, waiting):
         return chance.choice(["approve"] * 6 + ["decline", "funds", "challenge", "challenge", "park pending",
                                                 "park failed", "park memory"])
     if chance.random() < 0.1:
-        return chance.choice(["entries", "balance 1 usd", "balance 1 jpy", "balance 2 usd", "tick 1700172800",
+        return chance.choice(["entries", "balance 1 usd", "balance 1 jpy", "balance 2 usd", "balance 3 eur", "tick 1700172800",
                               f"tick {chance.randrange(1700000000, 1700400000)}"])
     method, target, form = session.call()
     front = chance.choice([""] * 30 + ["as -: ", "as x: ", "account acct_0000000000000001: ", "account x: "])
+    if session.connected() and chance.random() < 0.3:
+        front = f"account {chance.choice(session.connected())}: "
     return f"{front}{method} {target if target.startswith('/') else '/'} {form.replace(' ', '+')}".rstrip()
 
 
