@@ -49,6 +49,7 @@ class Session:
     def __init__(self, chance):
         self.chance = chance
         self.seen = []
+        self.whose = None
 
     def one(self, values):
         return self.chance.choice(values)
@@ -89,9 +90,19 @@ class Session:
             (0.1, f"description={self.one(TEXTS)}"),
             (0.2, f"metadata[{self.one('abc')}]={self.one(TEXTS)}"),
             (0.1, f"transfer_group={self.one(TEXTS)}"),
-            (0.3, f"application_fee_amount={self.one(FEES[:5])}"),
-            (0.3, f"transfer_data[destination]={self.identity('acct_')}"),
-        ])
+        ] + self.split())
+
+    def split(self):
+        """What a create says of a marketplace: nothing, a destination, or an application fee alone, which is for a
+        connected account."""
+        made, fee = self.connected(), f"application_fee_amount={self.one(FEES[:5])}"
+        if not made or self.likely(0.3):
+            return [(0.03, fee), (0.03, f"transfer_data[destination]={self.identity('acct_')}")]
+        if self.likely(0.5):
+            self.whose = "acct_0000000000000001"
+            return [(0.7, fee), (0.97, f"transfer_data[destination]={self.one(made)}")]
+        self.whose = self.one(made)
+        return [(0.7, fee)]
 
     def create(self):
         return "POST", "/v1/payment_intents", self.form([
@@ -187,12 +198,13 @@ class Session:
     def call(self):
         """A method, a target and a form. Calls on objects of a kind come once one was seen, mostly."""
         calls = [(self.payment, "", 4), (self.create, "", 1), (self.balance, "", 1), (self.clock, "", 1),
-                 (self.account, "", 1),
+                 (self.account, "", 2),
                  (self.get, "pi_", 4), (self.update, "pi_", 2), (self.confirm, "pi_", 3), (self.capture, "pi_", 3),
                  (self.cancel, "pi_", 1), (self.authenticate, "pi_", 3), (self.refund, "ch_", 5),
                  (self.evidence, "dp_", 2), (self.close, "dp_", 1)]
         possible = [call for call, prefix, share in calls for _ in range(share)
                     if any(text.startswith(prefix) for text in self.seen) or self.likely(0.05) or prefix == ""]
+        self.whose = None
         method, target, form = self.one(possible)() if self.likely(0.98) else self.strange()
         if form and self.likely(0.1):
             return method, f"{target}?{form}", ""
@@ -202,13 +214,15 @@ class Session:
         """The lines of a request."""
         method, target, form = self.call()
         headers = ["key"] if self.likely(0.98) else [self.one(["", "Authorization: Bearer x", "Authorization: key"])]
-        headers += self.header() + self.owner()
+        headers += self.header() + [f"Stripe-Account: {account}" for account in self.owner()]
         return [f"> {method} {target}"] + [line for line in headers if line] + ["", form]
 
     def owner(self):
-        """The line that names an account, once one was made, now and then."""
+        """The account that the call in the making is to be of, where one is to be named."""
         made = self.connected()
-        return [f"Stripe-Account: {self.one(made)}"] if made and self.likely(0.3) else []
+        if self.whose and self.likely(0.95):
+            return [self.whose]
+        return [self.one(made)] if made and self.likely(0.3) else []
 
     def connected(self):
         """The accounts that were made."""
@@ -367,8 +381,8 @@ def history_step(chance, session, waiting):
                               f"tick {chance.randrange(1700000000, 1700400000)}"])
     method, target, form = session.call()
     front = chance.choice([""] * 30 + ["as -: ", "as x: ", "account acct_0000000000000001: ", "account x: "])
-    if session.connected() and chance.random() < 0.3:
-        front = f"account {chance.choice(session.connected())}: "
+    for account in session.owner():
+        front = f"account {account}: "
     return f"{front}{method} {target if target.startswith('/') else '/'} {form.replace(' ', '+')}".rstrip()
 
 
