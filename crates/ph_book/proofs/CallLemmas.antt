@@ -1,11 +1,14 @@
 -- What requests come to keeps the rows sound, by the law of each call.
-use Rattle.std.proofs.Common.{◌≡◌, ℕ, ◌+◌, ◌≤◌, Bool, true, false, cond, not, nat_lt, List, Option, None, Some, Result, Ok, Err, refl, arith, codes, IfOk}
+use Rattle.std.proofs.Common.{◌≡◌, ℕ, ◌+◌, ◌≤◌, Bool, true, false, cond, not, nat_lt, List, [], length, Option, None, Some, Result, Ok, Err, refl, arith, codes, IfOk}
+use Rattle.std.specs.List.{list_all}
 use Rattle.std.specs.Option.{option_or}
+use Rattle.std.specs.Str.{is_utf8}
 use Rattle.std.proofs.lemmas.Bool.Decides.{nat_tests}
 use Rattle.ph_base.specs.declared.ids.Kind.{Kind}
 use Rattle.ph_errors.specs.declared.api_error.ApiError.{ApiError}
-use Rattle.ph_errors.specs.Table.{ClockBackwards, InvalidApiKey, NoSuchAccount, error_of}
+use Rattle.ph_errors.specs.Table.{ClockBackwards, InvalidApiKey, KeyNotText, KeyTooLong, NoSuchAccount, error_of}
 use Rattle.ph_items.specs.Clocks.{clock_limit}
+use Rattle.ph_items.specs.Weights.{with_text}
 use Rattle.ph_rows.specs.declared.rows.Row.{Row}
 use Rattle.ph_rows.specs.Names.{owned_named}
 use Rattle.ph_rows.specs.Views.{ViewState}
@@ -13,13 +16,15 @@ use Rattle.ph_facts.specs.Keeps.{IsReady, KeepsRows, batch_after, is_refusal, mo
 use Rattle.ph_facts.specs.Outcomes.{Outcome, Refuses, Adds}
 use Rattle.ph_facts.specs.Sound.{IsSound}
 use Rattle.ph_facts.proofs.DoneLemmas.{kept_few, no_object, nothing_added}
+use Rattle.ph_form.specs.declared.fault.FormFault.{FormFault}
+use Rattle.ph_form.specs.declared.leaf.Leaf.{Leaf}
 use Rattle.ph_http.specs.declared.message.Raw.{Raw}
 use Rattle.ph_kinds.specs.declared.authentication.Authentication.{Authentication}
 use Rattle.ph_kinds.specs.declared.authentication.Authentication.TheVariants.{Succeeded, Failed}
 use Rattle.ph_calls.specs.declared.call.Authenticate.{Authenticate}
 use Rattle.ph_calls.specs.declared.call.Call.{Call}
 use Rattle.ph_calls.specs.declared.call.Call.TheVariants as call
-use Rattle.ph_calls.specs.Reading.{reading_of}
+use Rattle.ph_calls.specs.Reading.{form_of, reading_of}
 use Rattle.ph_calls.specs.Fit as calls
 use Rattle.ph_calls.proofs.FitLemmas.{reading_fit}
 use Rattle.ph_disputes.specs.Answers.{evidence_outcome}
@@ -38,13 +43,17 @@ use Rattle.ph_disputes.proofs.OpeningLemmas.{open_due_keeps}
 use Rattle.ph_accounts.specs.Create as accounts
 use Rattle.ph_accounts.specs.Naming.{account_of}
 use Rattle.ph_accounts.proofs.EntryLemmas as new_accounts
-use Rattle.ph_book.specs.Calls.{Upshot, Rejects, Makes, Shows, Sets, and_opened, authenticated, called_at, carried, clock_set, account_upshot, found_outcome, is_key, payment_named, read_upshot, retrieved}
+use Rattle.ph_book.specs.declared.judged.Judged.{Judged}
+use Rattle.ph_book.specs.declared.judged.Judged.TheVariants.{Refused, Accepted}
+use Rattle.ph_book.specs.Calls.{key_asked, Upshot, Rejects, Replays, Makes, Shows, Sets, and_opened, authenticated, carried, clock_set, found_outcome, payment_named, retrieved}
+use Rattle.ph_book.specs.Keys.{account_request, asked_in, asked_by, formed_request, is_key, key_of, keyed_request, read_request, request_of}
 use Rattle.ph_book.proofs.ErrorLemmas.{IfRefused, IsAnswered, answered, chosen, reading_answered}
 
 -- the error of a request that is no call can be answered; what a call comes to keeps the rows sound; or the clock is set to a moment
 -- that it may show
 abbrev pub KeepsCall : ViewState → Upshot → Type 0
 KeepsCall state (Rejects error) = IsAnswered error
+KeepsCall state (Replays saved) = Unit {0}
 KeepsCall state (Makes outcome) = KeepsRows state most_rows outcome
 KeepsCall state (Shows doc) = Unit {0}
 KeepsCall state (Sets moment) = (state.time ≤ moment) × (moment ≤ clock_limit)
@@ -85,7 +94,7 @@ clock_keeps state moment shown = at (nat_lt moment state.time) refl
     at false e = (grind (arith, nat_tests), shown)
 
 -- a call that is carried out: one line for each row of the table of calls
-carried_keeps : (state : ViewState) (entry account : ℕ) (c : Call) → IsReady state → calls.IsFit c → KeepsCall state (carried state.rows account state.time c (batch_after state entry))
+pub carried_keeps : (state : ViewState) (entry account : ℕ) (c : Call) → IsReady state → calls.IsFit c → KeepsCall state (carried state.rows account state.time c (batch_after state entry))
 carried_keeps state entry account (call.CreateIntent c) ready fit =
     chosen (KeepsRows state most_rows) c.confirm (create_confirmed_outcome state.rows account c (batch_after state entry))
     (create_outcome state.rows account c (batch_after state entry))
@@ -99,29 +108,73 @@ carried_keeps state entry account (call.CancelIntent c) ready fit = kept_few sta
 carried_keeps state entry account (call.CreateRefund c) ready fit = kept_few state 4 most_rows (refund_outcome state.rows account c (batch_after state entry)) (refund_keeps state entry account c ready fit.texts) (omega arith)
 carried_keeps state entry account (call.SendEvidence c) ready fit = kept_few state 3 most_rows (evidence_outcome state.rows account c (batch_after state entry)) (evidence_keeps state entry account c ready fit.texts) (omega arith)
 carried_keeps state entry account (call.CloseDispute c) ready fit = kept_few state 2 most_rows (close_outcome state.rows account c (batch_after state entry)) (close_keeps state entry account c ready refl) (omega arith)
-carried_keeps state entry account (call.Retrieve c) ready fit = retrieved_keeps state entry account c.kind c.id ready.sound
 carried_keeps state entry account (call.CreateAccount c) ready fit = kept_few state 1 most_rows (accounts.create_outcome state.rows account c (batch_after state entry)) (new_accounts.create_keeps state entry account c ready fit.texts) (omega arith)
+carried_keeps state entry account (call.Retrieve c) ready fit = retrieved_keeps state entry account c.kind c.id ready.sound
 carried_keeps state entry account (call.GetBalance c) ready fit = tt
 carried_keeps state entry account (call.SetClock c) ready fit = clock_keeps state c.now fit.shown
 carried_keeps state entry account (call.Authenticate c) ready fit = kept_few state 2 most_rows (authenticated state.rows account c (batch_after state entry) c.outcome) (authenticated_keeps state entry account c c.outcome ready) (omega arith)
 
-read_keeps : (state : ViewState) (entry account : ℕ) (reading : Result Call ApiError) → IsReady state → IfRefused reading
-    → IfOk reading calls.IsFit → KeepsCall state (read_upshot state.rows account state.time reading (batch_after state entry))
-read_keeps state entry account (Err error) ready refused fit = refused
-read_keeps state entry account (Ok c) ready refused fit = carried_keeps state entry account c ready fit
+-- the error of a request that is refused can be answered, and a call that is accepted is fit to be carried out
+abbrev pub KeepsJudged : Judged → Type 0
+KeepsJudged (Refused error) = IsAnswered error
+KeepsJudged (Accepted account c asked) = calls.IsFit c
 
--- by the account that it is of
-account_keeps : (state : ViewState) (entry : ℕ) (raw : Raw) (account : Option ℕ) → IsReady state
-    → KeepsCall state (account_upshot state.rows state.time entry raw account)
-account_keeps state entry raw None ready = answered NoSuchAccount
-account_keeps state entry raw (Some account) ready =
-    read_keeps state entry account (reading_of account raw) ready (reading_answered account raw) (reading_fit account raw)
+keyed_keeps : (account : ℕ) (raw : Raw) (c : Call) (tree : List Leaf) (key : Option (List ℕ)) → calls.IsFit c → KeepsJudged (keyed_request account raw c tree key)
+keyed_keeps account raw c tree None fit = fit
+keyed_keeps account raw c tree (Some key) fit =
+    chosen KeepsJudged (nat_lt 255 (length key)) (Refused (error_of KeyTooLong))
+    (cond (not (is_utf8 key)) (Refused (error_of KeyNotText)) (Accepted account c (Some (asked_by account raw tree key)))) (answered KeyTooLong)
+    (chosen KeepsJudged (not (is_utf8 key)) (Refused (error_of KeyNotText)) (Accepted account c (Some (asked_by account raw tree key))) (answered KeyNotText) fit)
 
--- what a request comes to
-pub called_keeps : (key : List ℕ) (state : ViewState) (entry : ℕ) (raw : Raw) → IsReady state
-    → KeepsCall state (called_at key state.rows state.time entry raw)
-unfolding called_at
-called_keeps key state entry raw ready =
-    let read : Upshot = account_upshot state.rows state.time entry raw (account_of state.rows raw.account) in
-    chosen (KeepsCall state) (not (is_key key raw.auth)) (Rejects (error_of InvalidApiKey)) read (answered InvalidApiKey)
-    (account_keeps state entry raw (account_of state.rows raw.account) ready)
+formed_keeps : (account : ℕ) (raw : Raw) (c : Call) (form : Result (List Leaf) FormFault) → calls.IsFit c → KeepsJudged (formed_request account raw c form)
+formed_keeps account raw c (Err fault) fit = fit
+formed_keeps account raw c (Ok tree) fit = keyed_keeps account raw c tree (key_of raw) fit
+
+read_keeps : (account : ℕ) (raw : Raw) (reading : Result Call ApiError) → IfRefused reading → IfOk reading calls.IsFit → KeepsJudged (read_request account raw reading)
+read_keeps account raw (Err error) refused fit = refused
+read_keeps account raw (Ok c) refused fit = formed_keeps account raw c (form_of raw) fit
+
+-- a request of the account that it names
+account_keeps : (raw : Raw) (found : Option ℕ) → KeepsJudged (account_request raw found)
+account_keeps raw None = answered NoSuchAccount
+account_keeps raw (Some account) =
+    read_keeps account raw (reading_of account raw) (reading_answered account raw) (reading_fit account raw)
+
+-- what the steps of a request before its own make of it
+pub judged_keeps : (key : List ℕ) (rows : List Row) (raw : Raw) → KeepsJudged (request_of key rows raw)
+unfolding request_of
+judged_keeps key rows raw =
+    chosen KeepsJudged (not (is_key key raw.auth)) (Refused (error_of InvalidApiKey))
+    (account_request raw (account_of rows raw.account)) (answered InvalidApiKey) (account_keeps raw (account_of rows raw.account))
+
+-- a key under which something is asked is text
+abbrev pub IsText : Option (List ℕ) → Type 0
+IsText key = list_all is_utf8 (with_text key []) ≡ true
+
+keyed_text : (account : ℕ) (raw : Raw) (c : Call) (tree : List Leaf) (key : Option (List ℕ)) → IsText (key_asked (asked_in (keyed_request account raw c tree key)))
+keyed_text account raw c tree None = refl
+keyed_text account raw c tree (Some key) = at (nat_lt 255 (length key)) (is_utf8 key) refl
+  where
+    at : (long text : Bool) → is_utf8 key ≡ text
+        → IsText (key_asked (asked_in (cond long (Refused (error_of KeyTooLong)) (cond (not text) (Refused (error_of KeyNotText)) (Accepted account c (Some (asked_by account raw tree key)))))))
+    at true text e = refl
+    at false false e = refl
+    at false true e = rw e refl
+
+formed_text : (account : ℕ) (raw : Raw) (c : Call) (form : Result (List Leaf) FormFault) → IsText (key_asked (asked_in (formed_request account raw c form)))
+formed_text account raw c (Err fault) = refl
+formed_text account raw c (Ok tree) = keyed_text account raw c tree (key_of raw)
+
+read_text : (account : ℕ) (raw : Raw) (reading : Result Call ApiError) → IsText (key_asked (asked_in (read_request account raw reading)))
+read_text account raw (Err error) = refl
+read_text account raw (Ok c) = formed_text account raw c (form_of raw)
+
+account_text : (raw : Raw) (found : Option ℕ) → IsText (key_asked (asked_in (account_request raw found)))
+account_text raw None = refl
+account_text raw (Some account) = read_text account raw (reading_of account raw)
+
+pub judged_text : (key : List ℕ) (rows : List Row) (raw : Raw) → IsText (key_asked (asked_in (request_of key rows raw)))
+unfolding request_of
+judged_text key rows raw =
+    chosen (λ (j : Judged). IsText (key_asked (asked_in j))) (not (is_key key raw.auth)) (Refused (error_of InvalidApiKey))
+    (account_request raw (account_of rows raw.account)) refl (account_text raw (account_of rows raw.account))
