@@ -36,11 +36,15 @@ create_intent amount currency payment_method confirm capture_method description 
   transfer_group = transfer_group;
 }
 
+-- an application fee that is named is above an amount
+abbrev pub is_fee_above : Option ℕ → ℕ → Bool
+is_fee_above fee amount = nat_lt amount (unwrap_or fee 0)
+
 -- the further checks of a create by an account that speak of an application fee and a destination: a fee above the amount;
 -- one of the platform without a destination; a destination of a connected account
 abbrev pub connect_checks : ℕ → CreateIntent → List (Bool × ApiError)
 connect_checks account c =
-    (nat_lt c.amount (unwrap_or c.application_fee_amount 0), error_of (InvalidValue (codes "application_fee_amount"))) ∷
+    (is_fee_above c.application_fee_amount c.amount, error_of (InvalidValue (codes "application_fee_amount"))) ∷
     (is_some c.application_fee_amount && account == platform && is_none c.destination, error_of (InvalidValue (codes "application_fee_amount"))) ∷
     (is_some c.destination && not (account == platform), error_of (InvalidValue (codes "transfer_data[destination]"))) ∷ []
 

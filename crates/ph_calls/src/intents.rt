@@ -1,9 +1,7 @@
 //! The calls on payment intents, each of an id and a form.
-ghost use Rattle.std.specs.Prelude.{◌≡◌, ◌==◌, ◌&&◌, not, is_none, nat_lt, unwrap_or, IfErr, IfOk, Ok};
-ghost use Rattle.std.specs.Option.{is_some};
-ghost use Rattle.ph_items.specs.Accounts.{platform};
+ghost use Rattle.std.specs.Prelude.{◌≡◌, IfErr, IfOk, Ok};
 ghost use Rattle.ph_calls.specs.Check.{Refuses};
-ghost use Rattle.ph_calls.specs.Intents.{authenticate_intent, cancel_intent, capture_intent, confirm_intent, connect_error, create_intent, create_intent_error, update_intent};
+ghost use Rattle.ph_calls.specs.Intents.{authenticate_intent, cancel_intent, capture_intent, confirm_intent, connect_error, create_intent, create_intent_error, is_fee_above, update_intent};
 ghost use Rattle.ph_calls.specs.Parameters.{given};
 ghost use Rattle.ph_calls.specs.Table.{params_of};
 
@@ -46,9 +44,9 @@ pub fn create_intent(alloc: Global, form: &Form) -> Result<CreateIntent, Refusal
     })
 }
 
-// Whether an application fee is above an amount.
-fn is_above(fee: Option<Amount>, amount: Amount) -> bool
-    ensures { result ≡ nat_lt amount (unwrap_or fee 0) }
+/// Whether an application fee that is named is above an amount.
+pub fn is_fee_above(fee: Option<Amount>, amount: Amount) -> bool
+    ensures { result ≡ is_fee_above fee amount }
 {
     match fee {
         Some(fee) => amount < fee,
@@ -65,7 +63,7 @@ fn connect_error(
     ensures { IfOk result (λ error. error ≡ connect_error account call.now) }
 {
     let ours = account == PLATFORM;
-    if is_above(call.application_fee_amount, call.amount) {
+    if is_fee_above(call.application_fee_amount, call.amount) {
         return Ok(Some(ApiError::invalid_value(alloc, FEE_NAME)?));
     }
     if call.application_fee_amount.is_some() && ours && call.destination.is_none() {

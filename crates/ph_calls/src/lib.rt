@@ -20,6 +20,7 @@ pub use call::{
     Authenticate, Call, CancelIntent, CaptureIntent, CloseDispute, ConfirmIntent, CreateAccount,
     CreateIntent, CreateRefund, GetBalance, Retrieve, SendEvidence, SetClock, UpdateIntent,
 };
+pub use intents::is_fee_above;
 pub use laws::{readings_are_fit, readings_are_refused};
 pub use ph_kinds::Authentication;
 pub use reading::{Request, read_call};

@@ -1,25 +1,16 @@
 //! The application fee that an update or a capture may name.
 ghost use Rattle.std.specs.Prelude.{◌≡◌};
-ghost use Rattle.ph_intents.specs.Fees.{is_above, is_of_nobody, is_wrong_fee};
+ghost use Rattle.ph_intents.specs.Fees.{is_of_nobody, is_wrong_fee};
 
+use ph_calls::is_fee_above;
 use ph_items::PLATFORM;
 use ph_money::Amount;
-
-// Whether a fee that is named is above an amount.
-fn is_above(fee: Option<Amount>, amount: Amount) -> bool
-    ensures { result ≡ is_above fee amount }
-{
-    match fee {
-        Some(fee) => amount.units() < fee.units(),
-        None => false,
-    }
-}
 
 // Whether a fee above 0 is named of a payment intent that the platform makes for itself, without a destination.
 fn is_of_nobody(account: u64, destination: Option<u64>, fee: Option<Amount>) -> bool
     ensures { result ≡ is_of_nobody account destination fee }
 {
-    is_above(fee, Amount::new(0)) && account == PLATFORM && destination.is_none()
+    is_fee_above(fee, Amount::new(0)) && account == PLATFORM && destination.is_none()
 }
 
 /// Whether the fee that is named of a payment intent of an account isn't possible, where so much is to be captured.
@@ -31,5 +22,5 @@ pub fn is_wrong_fee(
 ) -> bool
     ensures { result ≡ is_wrong_fee account destination fee amount }
 {
-    is_above(fee, amount) || is_of_nobody(account, destination, fee)
+    is_fee_above(fee, amount) || is_of_nobody(account, destination, fee)
 }
