@@ -1,5 +1,5 @@
 -- What a book makes of a call, by what it keeps.
-use Rattle.std.proofs.Common.{◌≡◌, ℕ, ◌+◌, ◌∷◌, ◌++◌, List, [], length, Option, Some, None, refl, sym, ap, ◌∙◌, subst}
+use Rattle.std.proofs.Common.{◌≡◌, ℕ, ◌+◌, ◌∷◌, ◌++◌, List, [], length, Option, Some, None, is_some, refl, sym, ap, ◌∙◌, subst}
 use Rattle.ph_attempts.specs.Attempts.{Begins, Step}
 use Rattle.ph_attempts.specs.declared.flights.Attempt as flights
 use Rattle.ph_doings.specs.Kept.{step_of}
@@ -15,14 +15,16 @@ use Rattle.ph_book.specs.declared.acts.Deed.TheVariants as deed
 use Rattle.ph_book.specs.declared.acts.Entry.{Entry}
 use Rattle.ph_book.specs.declared.calls.Called.{Called}
 use Rattle.ph_book.specs.declared.calls.Opening.{Opening}
-use Rattle.ph_book.specs.Called.{IsAnswered, IsCalled, IsOpening, ServeKeys, asked_if, opening_of}
-use Rattle.ph_book.specs.Calls.{opens}
+use Rattle.ph_idem.specs.Records.{found_in}
+use Rattle.ph_book.specs.Called.{HaveReplies, IsCalled, IsOpening, ServeKeys, asked_if, opening_of}
+use Rattle.ph_book.specs.Calls.{Keys, opens}
 use Rattle.ph_book.specs.Entries.{call_entry}
 use Rattle.ph_book.specs.History.{Effect, asks_to, effect_to, keys_after, past_of, reply_at, request_effect, rows_of, saids_after, time_of, turns_after}
 use Rattle.ph_book.specs.Hosts as host
 use Rattle.ph_book.specs.Keys.{asked_in, request_of}
 use Rattle.ph_book.specs.Replies.{Said, Replies, Waits}
 use Rattle.ph_book.specs.State.{BookState, IsBook, records_of}
+use Rattle.ph_book.proofs.KeyedLemmas.{serves_saved}
 use Rattle.ph_book.proofs.SavingLemmas.{saves_opens}
 use Rattle.ph_book.proofs.ServeLemmas.{records_serve}
 use Rattle.ph_book.proofs.StandLemmas.{legal_stands}
@@ -37,6 +39,15 @@ book_serves setup history rows time weight attempts records live b =
     subst (λ (p : List Row × (ℕ × List KeyRecord)). ServeKeys (known setup history) p.0 p.1.0 p.1.1)
     (λ i. (sym b.rows_are i, (sym b.time_is i, sym b.records_are i)))
     (records_serve setup (past_of setup history) (legal_stands setup history b.few b.legal))
+
+-- and a reply that it finds is there
+pub book_replies : (setup : Setup) (history : List Entry) (rows : List Row) (time weight : ℕ) (attempts : List flights.Attempt) (records : List KeyRecord) (live : ℕ)
+    → IsBook setup history rows time weight attempts records live → HaveReplies time records
+book_replies setup history rows time weight attempts records live b asked entry is =
+    let keys : Keys = known setup history in
+    let served = serves_saved keys rows records (keys.found asked) (found_in asked.account asked.key asked.shape time records) entry
+    (book_serves setup history rows time weight attempts records live b asked) is in
+    ap is_some served.reply_is
 
 -- what the program made of a call is what it comes to after the history
 pub call_made : (old : BookState) (setup : Setup) (history : List Entry) (rows : List Row) (time weight : ℕ) (attempts : List flights.Attempt) (records : List KeyRecord) (live place caller : ℕ) (raw : Raw) (made : Called)
@@ -59,6 +70,12 @@ call_made old setup history rows time weight attempts records live place caller 
     (called_is here setup history rows time weight attempts records live place caller raw made refl b at asks (asked_if (effect_to setup history (call_entry caller raw)).saves asks)
     (subst (λ open_. IsCalled rows time place caller asks (asked_if open_ asks) (request_effect setup (known setup history) rows time place caller raw asks) made)
     (sym saves) comes))))
+
+-- it is what is made of it, in each case
+pub called_as : (rows : List Row) (now place caller : ℕ) (asks opened : Option Asked) (effect : Effect) (called other : Called) → called ≡ other
+    → IsCalled rows now place caller asks opened effect called → IsCalled rows now place caller asks opened effect other
+called_as rows now place caller asks opened effect called other is comes =
+    subst (λ (c : Called). IsCalled rows now place caller asks opened effect c) is comes
 
 -- ---- the steps of calls
 

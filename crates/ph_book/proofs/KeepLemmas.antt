@@ -10,6 +10,7 @@ use Rattle.ph_attempts.specs.declared.flights.Flight.{Flight}
 use Rattle.ph_base.specs.declared.acquirer.Ruling.{Ruling}
 use Rattle.ph_base.specs.declared.acquirer.Why.{Why}
 use Rattle.ph_doings.specs.Doings.{Doing}
+use Rattle.ph_doings.specs.Doings as doing
 use Rattle.ph_doings.specs.Kept.{step_of}
 use Rattle.ph_http.specs.declared.message.Raw.{Raw}
 use Rattle.ph_http.specs.declared.message.Reply.{Reply}
@@ -17,6 +18,7 @@ use Rattle.ph_idem.specs.declared.asked.Asked.{Asked}
 use Rattle.ph_idem.specs.declared.key_record.KeyRecord.{KeyRecord}
 use Rattle.ph_idem.specs.Records.{is_attached, is_newest, taken_back}
 use Rattle.ph_items.specs.Clocks.{clock_limit}
+use Rattle.ph_items.specs.declared.intents.CaptureMethod.{CaptureMethod}
 use Rattle.ph_items.specs.declared.orders.Order.{Order}
 use Rattle.ph_rows.specs.declared.rows.Row.{Row}
 use Rattle.ph_book.specs.declared.setup.Setup.{Setup}
@@ -27,7 +29,7 @@ use Rattle.ph_book.specs.declared.calls.Opening.{Opening}
 use Rattle.ph_book.specs.declared.endings.Saving.{Saving}
 use Rattle.ph_book.specs.Called.{IsOpening, IsResuming, asked_if, begun_records, kept_records, opening_of, opening_weight, record_key, saved_records, saving_of, saving_weight}
 use Rattle.ph_book.specs.Entries.{TakesUp, call_entry, finish_entry, park_entry, resume_entry, tick_entry}
-use Rattle.ph_book.specs.History.{Effect, asks_to, doings_of, effect_to, past_of, rows_of, said_to, time_of}
+use Rattle.ph_book.specs.History.{Effect, asks_to, doings_of, effect_to, finish_effect, nothing, past_of, rows_of, said_to, time_of}
 use Rattle.ph_book.specs.Legal.{IsAllowed, is_full, saved_weight, weight_of}
 use Rattle.ph_book.specs.Answers.{is_ruled}
 use Rattle.ph_book.specs.Replies.{Said, Replies, Waits, Silence}
@@ -232,8 +234,10 @@ finish_keeps old setup history rows time weight attempts records live place call
     said : said_to setup history entry ≡ Replies reply
     said = subst (λ (x : BookState). said_to x.setup x.history entry ≡ Replies reply) (sym is) said_old
 
+    does : (intent : ℕ) × (capture : CaptureMethod) × ((effect_to setup history entry).doing ≡ doing.Settles intent ticket capture ruling)
     does = finish_does setup history caller ticket ruling b.few b.legal holds_here
 
+    comes : effect_to setup history entry ≡ finish_effect (known setup history) rows time place ruling (Some ticket)
     comes = finish_is here setup history rows time weight attempts records live place caller ticket ruling refl b holds_here placed
 
     allowed : IsAllowed setup (past_of setup history) entry
@@ -264,10 +268,12 @@ tick_keeps old setup history rows time weight attempts records live caller momen
 
 pub pass_keeps : (old : BookState) (setup : Setup) (history : List Entry) (rows : List Row) (time weight : ℕ) (attempts : List flights.Attempt) (records : List KeyRecord) (live caller : ℕ)
     → record { setup = setup; history = history } ≡ old → IsBook setup history rows time weight attempts records live → caller < 2 ^ 62
-    → is_full old.setup old.history deed.Resume ≡ false → step_of (effect_to setup history (resume_entry caller)).doing ≡ None
+    → is_full old.setup old.history deed.Resume ≡ false → effect_to old.setup old.history (resume_entry caller) ≡ nothing (time_of old.setup old.history)
     → records_of setup (history ++ resume_entry caller ∷ []) ≡ records
-pass_keeps old setup history rows time weight attempts records live caller is b below room stepped =
+pass_keeps old setup history rows time weight attempts records live caller is b below room none =
+    let comes : effect_to setup history (resume_entry caller) ≡ nothing (time_of setup history) =
+    subst (λ (x : BookState). effect_to x.setup x.history (resume_entry caller) ≡ nothing (time_of x.setup x.history)) (sym is) none in
     quiet_kept setup history (resume_entry caller) b.few b.legal
     (may_come setup history caller deed.Resume below tt tt (subst (λ (x : BookState). is_full x.setup x.history deed.Resume ≡ false) (sym is) room))
-    refl (subst SettlesNone (sym stepped) tt)
+    refl (subst (λ (effect : Effect). SettlesNone (step_of effect.doing)) (sym comes) tt)
     ∙ sym b.records_are

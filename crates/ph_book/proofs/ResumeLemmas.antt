@@ -312,17 +312,16 @@ resume_none old setup history rows time weight attempts records live caller is b
         ∙ kept_earliest (doings_of setup history) attempts (stands_of setup history rows time weight attempts records live b).lawful b.attempts_are
         ∙ ap (option_map (λ (o : Order). o.reference)) e in cc)
 
--- what a book keeps after it, where none is parked and there is room
+-- what a book keeps after it, where it comes to nothing and there is room
 pub pass_book : (old : BookState) (setup : Setup) (history : List Entry) (rows : List Row) (time weight : ℕ) (attempts : List Attempt) (records : List KeyRecord) (live caller : ℕ)
     → record { setup = setup; history = history } ≡ old → IsBook setup history rows time weight attempts records live → caller < 2 ^ 62
-    → is_full old.setup old.history deed.Resume ≡ false → first_parked attempts ≡ None
+    → is_full old.setup old.history deed.Resume ≡ false → effect_to old.setup old.history (resume_entry caller) ≡ nothing (time_of old.setup old.history)
     → records_of setup (history ++ resume_entry caller ∷ []) ≡ records
     → IsBook setup (history ++ resume_entry caller ∷ []) (rows ++ []) time ((weight + (0 + 0)) + 0) attempts records live
-pass_book old setup history rows time weight attempts records live caller is b below room first keeps =
-    let here : BookState = record { setup = setup; history = history } in
+pass_book old setup history rows time weight attempts records live caller is b below room none keeps =
     let room_here : is_full setup history deed.Resume ≡ false = subst (λ (x : BookState). is_full x.setup x.history deed.Resume ≡ false) (sym is) room in
     let comes : effect_to setup history (resume_entry caller) ≡ nothing time =
-    resume_none here setup history rows time weight attempts records live caller refl b first in
+    subst (λ (x : BookState). effect_to x.setup x.history (resume_entry caller) ≡ nothing (time_of x.setup x.history)) (sym is) none ∙ ap nothing (sym b.time_is) in
     let law = runs_are_counted (doings_of setup history) Leaves (tt, (stands_of setup history rows time weight attempts records live b).lawful) in
     let live_is = b.live_is in
     book_more setup history rows time weight attempts records live (resume_entry caller) [] Leaves time 0 live records b

@@ -1,5 +1,6 @@
 -- What a book keeps after one step more: a call, a ruling, a park.
 use Rattle.std.proofs.Common.{◌≡◌, ℕ, ◌+◌, ◌*◌, ◌^◌, ◌≤◌, ◌<◌, ◌∷◌, ◌++◌, max, Bool, true, false, List, [], length, Option, Some, None, refl, sym, ap, ◌∙◌, subst, find, arith, ◌||◌, ◌==◌}
+use Rattle.std.specs.List.{list_all}
 use Rattle.std.proofs.lemmas.Bool.{cond-true, eq-eqb}
 use Rattle.std.proofs.lemmas.Bool.Decides.{nat_tests}
 use Rattle.ph_base.specs.declared.acquirer.Ruling.{Ruling}

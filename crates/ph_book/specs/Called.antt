@@ -1,5 +1,5 @@
 -- What the program makes of a call.
-use Rattle.std.specs.Prelude.{◌≡◌, ℕ, ◌+◌, Bool, true, false, if◌then◌else◌, List, [], ◌∷◌, length, Option, Result, Ok, Err, Some, None, is_some}
+use Rattle.std.specs.Prelude.{◌≡◌, ℕ, ◌+◌, Bool, true, false, if◌then◌else◌, List, [], ◌∷◌, length, Option, Result, Ok, Err, Some, None, IsSome, is_some}
 use Rattle.ph_errors.specs.declared.refusal.Refusal.{Refusal}
 use Rattle.ph_errors.specs.declared.refusal.Refusal.TheVariants as refusal
 use Rattle.ph_http.specs.declared.message.Raw.{Raw}
@@ -192,3 +192,8 @@ ServesFound keys rows records (found.Saved place) there = ServesSaved records (k
 abbrev pub ServeKeys : Keys → List Row → ℕ → List KeyRecord → Type 0
 ServeKeys keys rows now records = (asked : Asked)
     → ServesFound keys rows records (keys.found asked) (found_in asked.account asked.key asked.shape now records)
+
+-- a reply that a call finds at a moment is there
+abbrev pub HaveReplies : ℕ → List KeyRecord → Type 0
+HaveReplies now records = (asked : Asked) (entry : ℕ) → found_in asked.account asked.key asked.shape now records ≡ idem.Saved entry
+    → IsSome (saved_in entry records)

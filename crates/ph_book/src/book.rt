@@ -10,7 +10,7 @@ ghost use Rattle.ph_book.specs.Answers.{HasStatus, IsAnswerTo, IsNoPark, Says, i
 ghost use Rattle.ph_book.specs.Called.{IsCalled, IsOpening, IsResuming, asked_if};
 ghost use Rattle.ph_book.specs.Calls.{key_asked};
 ghost use Rattle.ph_book.specs.Entries.{IsGranted, IsWithinClock, TakesUp, call_entry, deed_of, entry_of, finish_entry, park_entry, resume_entry, tick_entry};
-ghost use Rattle.ph_book.specs.History.{asks_to, effect_to, opening_row, replies_of, rows_of, said_to, time_of};
+ghost use Rattle.ph_book.specs.History.{asks_to, effect_to, nothing, opening_row, replies_of, rows_of, said_to, time_of};
 ghost use Rattle.ph_book.specs.Queries.{Sees};
 ghost use Rattle.ph_book.specs.Replies.{Replies, Silence, Waits, park_reply};
 ghost use Rattle.ph_book.specs.Hosts.{IsLawful};
@@ -199,6 +199,7 @@ impl Book {
         ensures live { IfOk result (λ answer. HandsOut self.new.setup self.new.history caller answer) }
         ensures unchanged { IfErr result (λ back. (back ≡ raw) × (self.new ≡ self.old)) }
     {
+        self.lawful();
         match called {
             Called::Answered(reply, rows, now, opening) => {
                 match self.enter(caller, raw, rows, now, opening) {
@@ -413,17 +414,30 @@ impl Book {
                 Ok(ticket) => Ok(Some(ticket)),
                 Err(_deed) => Err(Refused::NoMemory),
             },
-            None => match take_room(&mut self.entries, &mut self.store, 0, self.live) {
-                Ok(()) => {
-                    self.entries.push_reserved(Entry {
-                        caller,
-                        deed: Deed::Resume,
-                    });
-                    Ok(None)
-                }
+            None => match self.pass(caller) {
+                Ok(()) => Ok(None),
                 Err(NoMemory) => Err(Refused::NoMemory),
             },
         }
+    }
+
+    // Enters that an attempt was to be taken up again, and that none waits.
+    fn pass(&mut self, caller: u64) -> Result<(), NoMemory>
+        requires caller { caller < 2 ^ 62 }
+        requires room { is_full self.old.setup self.old.history deed.Resume ≡ false }
+        requires none { effect_to self.old.setup self.old.history (resume_entry caller) ≡ nothing (time_of self.old.setup self.old.history) }
+        ensures entry { OnOk result (self.new ≡ entered self.old (resume_entry caller)) }
+        ensures unchanged { OnErr result (self.new ≡ self.old) }
+    {
+        match take_room(&mut self.entries, &mut self.store, 0, self.live) {
+            Ok(()) => {}
+            Err(NoMemory) => return Err(NoMemory),
+        }
+        self.entries.push_reserved(Entry {
+            caller,
+            deed: Deed::Resume,
+        });
+        Ok(())
     }
 
     // Enters a ruling. Where there is no memory, the ticket comes back.

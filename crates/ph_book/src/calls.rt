@@ -11,7 +11,7 @@ ghost use Rattle.ph_intents.specs.Begun.{GivesBegun};
 ghost use Rattle.ph_intents.specs.Capture.{capture_outcome};
 ghost use Rattle.ph_book.specs.declared.setup.Setup.{Setup};
 ghost use Rattle.ph_book.specs.Calls.{Keys, Makes, Shows, and_opened, authenticated, carried, clock_set, created, key_asked, keyed_upshot, opens, payment_named, retrieved};
-ghost use Rattle.ph_book.specs.Called.{Comes, IsCalled, ServeKeys, asked_if, opening_of};
+ghost use Rattle.ph_book.specs.Called.{Comes, HaveReplies, IsCalled, ServeKeys, asked_if, opening_of};
 ghost use Rattle.ph_book.specs.History.{Effect, call_effect, request_effect};
 ghost use Rattle.ph_book.specs.Keys.{asked_in, request_of};
 ghost use Rattle.ph_book.specs.Replies.{Replies, Waits, doc_reply, error_reply, replayed_reply, shown_reply};
@@ -346,7 +346,7 @@ fn made(
 
 // A reply that was saved, given once more.
 fn replayed(alloc: Global, store: &Store, saved: Option<&Saved>) -> Result<Called, NoMemory>
-    requires there { IsSome (option_copied saved.entry) }
+    requires there { IsSome (option_copied saved) }
     ensures { (rows : List Row) (time place caller : ℕ) (of : Option Asked) (effect : Effect) → IfSome (option_copied saved.entry) (λ reply. effect.said ≡ Replies (replayed_reply reply))
         → effect.saves ≡ false → effect.rows ≡ [] → effect.now ≡ store.now.time → IfOk result (λ called. IsCalled rows time place caller of None effect called) }
 {
@@ -369,6 +369,7 @@ fn keyed(
     call: &Call,
     asked: Asked,
 ) -> Result<Called, NoMemory>
+    requires replies { HaveReplies store.now.time records.now }
     ensures { (keys : Keys) (caller : ℕ) → ServeKeys keys store.now.rows store.now.time records.now → IfOk result (λ called. IsCalled store.now.rows store.now.time place caller (Some asked) (asked_if (opens keys (Some asked)) (Some asked))
         (call_effect (Some asked.key) (opens keys (Some asked)) store.now.rows store.now.time place caller (keyed_upshot keys store.now.rows (empty_batch (length store.now.rows) store.now.time place) (carried store.now.rows account store.now.time call.now (empty_batch (length store.now.rows) store.now.time place)) (Some asked))) called) }
 {
@@ -397,14 +398,15 @@ pub fn called_by(
     place: u64,
     raw: &Raw,
 ) -> Result<Called, NoMemory>
+    requires replies { HaveReplies store.now.time records.now }
     ensures { (setup : Setup) (keys : Keys) (caller : ℕ) → setup.key ≡ key.now → ServeKeys keys store.now.rows store.now.time records.now → IfOk result (λ called. IsCalled store.now.rows store.now.time place caller (asked_in (request_of key.now store.now.rows raw.now)) (asked_if (opens keys (asked_in (request_of key.now store.now.rows raw.now))) (asked_in (request_of key.now store.now.rows raw.now)))
         (request_effect setup keys store.now.rows store.now.time place caller raw.now (asked_in (request_of key.now store.now.rows raw.now))) called) }
 {
     match judge(alloc, key, store, raw)? {
         Judged::Refused(error) => refused(alloc, &error, store.time(), None),
-        Judged::Accepted(account, call, None) => made(alloc, store, account, place, &call, None),
-        Judged::Accepted(account, call, Some(asked)) => {
-            keyed(alloc, store, records, account, place, &call, asked)
-        }
+        Judged::Accepted(account, call, asked) => match asked {
+            None => made(alloc, store, account, place, &call, None),
+            Some(asked) => keyed(alloc, store, records, account, place, &call, asked),
+        },
     }
 }

@@ -1,7 +1,7 @@
 use Rattle.std.proofs.Common.{ap, ◌∙◌, ◌+◌, refl}
 use Rattle.ph_book.specs.declared.acts.Deed.TheVariants as deed
 use Rattle.ph_book.proofs.HistoryLemmas.{full_is, has_room, no_room}
-use Rattle.ph_book.proofs.AskLemmas.{book_serves, call_made}
+use Rattle.ph_book.proofs.AskLemmas.{book_replies, book_serves, call_made}
 use Rattle.ph_book.proofs.ReplyLemmas.{call_answered}
 use Rattle.ph_book.proofs.StepLemmas.{known}
 use Rattle.ph_book.proofs.book.Book.call.Goals as goal
@@ -11,6 +11,9 @@ returns-then-is_full-clause-full c =
     let used = ap (λ n. n + c.self.inside.live) (c.len.ensures ∙ c.self.inside.entries.ok.0) in
     let test = full_is _ _ _ _ _ _ _ _ _ _ (deed.Call c.args.raw) _ c.self.view_is c.self.invariant.0 used c.is_full.ensures in
     no_room _ _ test c.if-is_full.true
+
+pub called_by-requires : goal.called_by-requires
+called_by-requires c = record { replies = book_replies _ _ _ _ _ _ _ _ c.self.invariant.0 }
 
 pub enter_called-requires-clause-room : goal.enter_called-requires-clause-room
 enter_called-requires-clause-room c =
