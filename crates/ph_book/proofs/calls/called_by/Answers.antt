@@ -8,6 +8,9 @@ use Rattle.ph_book.specs.Replies.{error_reply}
 use Rattle.ph_book.proofs.KeyedLemmas.{judged_called}
 use Rattle.ph_book.proofs.calls.called_by.Goals as goal
 
+pub keyed-requires : goal.keyed-requires
+keyed-requires c = record { replies = c.requires.replies }
+
 pub returns-in-Refused : goal.returns-in-Refused
 returns-in-Refused c setup keys caller same serve =
     let store = c.args.store.now in

@@ -19,7 +19,7 @@ use Rattle.ph_book.proofs.calls.keyed.Goals as goal
 pub replayed-requires : goal.replayed-requires
 replayed-requires c =
     let there = c.find.ensures ∙ ap (λ (p : List ℕ × ℕ). found_in c.args.asked.account p.0 c.args.asked.shape p.1 c.args.records.now) (λ i. (c.as_slice.ensures i, c.time-now.ensures i)) in
-    record { there = ap is_some c.saved.ensures ∙ c.requires c.args.asked c.in-Saved.entry (sym there ∙ c.in-Saved.is) }
+    record { there = ap is_some c.saved.ensures ∙ c.requires.replies c.args.asked c.in-Saved.entry (sym there ∙ c.in-Saved.is) }
 
 pub returns-in-Fresh : goal.returns-in-Fresh
 returns-in-Fresh c keys caller serve =

@@ -1,13 +1,14 @@
 use Rattle.std.proofs.Common.{◌≡◌, refl, sym, ap, ◌∙◌, ◌++◌, ◌∷◌, ◌+◌, [], length, length-append, arith, subst}
 use Rattle.ph_attempts.specs.declared.flights.Flight.{Flight}
 use Rattle.ph_attempts.specs.Attempts.{Begins, after}
+use Rattle.ph_idem.specs.Records.{taken_back}
 use Rattle.ph_rows.specs.Weights.{rows_weight}
 use Rattle.ph_book.specs.Entries.{call_entry}
 use Rattle.ph_book.specs.Legal.{raw_weight}
 use Rattle.ph_book.specs.State.{BookState}
 use Rattle.ph_book.specs.Tickets.{Holds}
 use Rattle.ph_book.proofs.HistoryLemmas.{book_is}
-use Rattle.ph_book.proofs.KeepLemmas.{begin_keeps}
+use Rattle.ph_book.proofs.KeepLemmas.{begin_keeps, begun_back}
 use Rattle.ph_book.proofs.StepLemmas.{begin_book, begun_held, time_now}
 use Rattle.ph_book.proofs.book.Book.begin.Goals as goal
 
@@ -34,6 +35,25 @@ invariant_of-self-2 c =
         for_rows = omega (arith, c.in-Ok.ensures.rows_room, c.append_reserved.ensures.room, c.args.rows.ok.0, c.len-2.ensures);
         for_replies = omega (arith, c.in-Ok-add_spare.ensures.ok, spares);
         for_weight = c.in-Some.ensures.1;
+      },
+    )
+
+pub invariant_of-self-in-Err-begin : goal.invariant_of-self-in-Err-begin
+invariant_of-self-in-Err-begin c =
+    let book = c.self.invariant.0 in
+    let room = c.self.invariant.1 in
+    let place = ap (λ n. n + 1) (c.len.ensures ∙ c.self.inside.entries.ok.0) in
+    let back = c.take_back.ensures ∙ ap (taken_back (c.len.result + 1)) c.in-Ok-open.ensures.opened ∙ begun_back _ _ _ _ _ _ _ _ _ _ _ c.args.asked book place in
+    let same = ap length c.in-Ok.ensures.entries in
+    let entries = room.for_entries in
+    let rows = room.for_rows in
+    let replies = room.for_replies in (
+      book_is _ _ _ _ _ _ _ _ _ _ _ _ _ _ book c.in-Ok.ensures.entries c.in-Ok.ensures.rows c.in-Ok.ensures.time refl c.in-Err-begin.ensures.refused back,
+      record {
+        for_entries = omega (arith, same, entries, c.in-Ok.ensures.entries_kept);
+        for_rows = omega (arith, rows, c.in-Ok.ensures.rows_kept);
+        for_replies = omega (arith, replies, c.in-Ok-add_spare.ensures.ok);
+        for_weight = room.for_weight;
       },
     )
 

@@ -31,7 +31,7 @@ invariant_of-self-2 c =
           c.advance.ensures.time (omega (arith, first, second)) refl refl,
       record {
         for_entries = omega (arith, count, c.in-Ok.ensures.entries_room, c.push_reserved.ensures.capacity);
-        for_rows = omega (arith, c.in-Ok.ensures.rows_room, c.append_reserved.ensures.room, c.advance.ensures.room, c.args.rows.ok.0, c.len.ensures);
+        for_rows = omega (arith, c.in-Ok.ensures.rows_room, c.append_reserved.ensures.room, c.advance.ensures.room, c.args.rows.ok.0, c.len-2.ensures);
         for_replies = room.for_replies;
         for_weight = c.in-Some-weight_with_opening.ensures.1;
       },
