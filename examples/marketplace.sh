@@ -45,5 +45,5 @@ requests() {
 if [ "${1:-}" = requests ]; then
     requests
 else
-    requests | ./payhost stdio
+    requests | "$PAYHOST" stdio
 fi

@@ -27,5 +27,5 @@ requests() {
 if [ "${1:-}" = requests ]; then
     requests
 else
-    requests | ./payhost stdio --patience 2
+    requests | "$PAYHOST" stdio --patience 2
 fi
