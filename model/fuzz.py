@@ -369,7 +369,8 @@ def history_case(chance):
         fields.append(f"entries {chance.randrange(1, 20)}")
     if chance.random() < 0.3:
         fields.append(f"weight {chance.randrange(256, 12000)}")
-    lines, waiting = [], 0
+    lines, waiting = ["POST /v1/accounts"] * chance.choice([0, 0, 1, 2]), 0
+    session.look(printed(cases.run_history, fields, lines))
     for _ in range(chance.randrange(1, MOST_STEPS + 1)):
         lines.append(history_step(chance, session, waiting))
         written = printed(cases.run_history, fields, lines)
