@@ -3,28 +3,23 @@ ghost use Rattle.std.specs.Prelude.{◌≡◌, None};
 
 use super::words::{CREATE, INTENT, words};
 use ph_bank::{SimAcquirer, Turns};
+use ph_base::Bytes;
 use ph_book::Book;
 use ph_host::{Worker, run_host};
 use ph_io::MemSink;
 use ph_net::{Port, TcpGate};
+use std::alloc::Global;
 use std::io;
 use std::io::{Read, Write};
 use std::net::{Net, TcpListener, TcpStream};
+use std::sync::Wait;
 use std::test::Fail;
-use std::thread::{for_each_mut, join};
+use std::thread::{Threads, for_each_mut, join};
 
-// Sends these bytes to a server of this port and reads as many as there is room for. Answers how many came.
-fn ask(stream: &mut TcpStream, bytes: &[u8], room: &mut [u8]) -> io::Result<usize> {
+// Sends these bytes to a server and reads as many as there is room for.
+fn ask(stream: &mut TcpStream, bytes: &[u8], room: &mut [u8]) -> io::Result<()> {
     stream.write_all(bytes)?;
-    let mut read = 0;
-    while read < room.len() {
-        let n = stream.read(&mut room[read..])?;
-        if n == 0 {
-            return Ok(read);
-        }
-        read += n;
-    }
-    Ok(read)
+    stream.read_exact(room)
 }
 
 // Whether this is the reply to a create, whatever the number of its payment intent, which stands in its secret and as its id.
@@ -47,9 +42,9 @@ fn client<R: Net<Listener = TcpListener, Stream = TcpStream>>(
     let mut last = [b'0'; 16];
     for _ in 0..requests {
         let mut room = [0u8; 575];
-        let n = ask(&mut stream, CREATE, &mut room)?;
+        ask(&mut stream, CREATE, &mut room)?;
         let number = &room[334..350];
-        if n == 575 && is_intent(&room) && number > last.as_slice() {
+        if is_intent(&room) && number > last.as_slice() {
             good = good.saturating_add(1);
         }
         last.copy_from_slice(number);
@@ -64,28 +59,90 @@ fn worker(port: &Port) -> Worker<TcpGate<'_>, SimAcquirer, Turns, Book>
     Worker::new(port.gate(1), SimAcquirer::new(), Turns::new(0))
 }
 
+// A server of one worker, for one connection.
+fn serve_one<R: Threads + Wait + Sync>(
+    rt: &R,
+    alloc: Global,
+    words: &[Bytes],
+    port: &Port,
+    output: &mut MemSink,
+) -> u8 {
+    let mut workers = [worker(port)];
+    run_host(rt, alloc, words, &mut workers, output).0
+}
+
+// A server of sixteen workers, for one connection each.
+fn serve_sixteen<R: Threads + Wait + Sync>(
+    rt: &R,
+    alloc: Global,
+    words: &[Bytes],
+    port: &Port,
+    output: &mut MemSink,
+) -> u8 {
+    let mut workers = [
+        worker(port),
+        worker(port),
+        worker(port),
+        worker(port),
+        worker(port),
+        worker(port),
+        worker(port),
+        worker(port),
+        worker(port),
+        worker(port),
+        worker(port),
+        worker(port),
+        worker(port),
+        worker(port),
+        worker(port),
+        worker(port),
+    ];
+    run_host(rt, alloc, words, &mut workers, output).0
+}
+
+// One request over a connection of its own.
+fn ask_once<R: Net<Listener = TcpListener, Stream = TcpStream>>(
+    rt: &R,
+    port: u16,
+    bytes: &[u8],
+    room: &mut [u8],
+) -> io::Result<()> {
+    let mut stream = TcpStream::connect(rt, ("127.0.0.1", port))?;
+    ask(&mut stream, bytes, room)
+}
+
 #[test]
 fn a_create_is_answered_over_loopback(rt: HostRuntime) -> Result<(), Fail> {
     let alloc = rt.alloc();
     let words = words(alloc, b"1")?;
     let port = Port::listen(&rt, 0);
     let number = port.number().expect(&rt, "a port of the system's choice");
-    let mut workers = [worker(&port)];
     let mut output = MemSink::new(alloc, 4096, Vec::new(alloc));
     let mut room = [0u8; 575];
     let (served, asked) = join(
         &rt,
-        || run_host(&rt, alloc, words.as_slice(), &mut workers, &mut output).0,
-        || {
-            let mut stream = TcpStream::connect(&rt, ("127.0.0.1", number))?;
-            ask(&mut stream, CREATE, &mut room)
-        },
+        || serve_one(&rt, alloc, words.as_slice(), &port, &mut output),
+        || ask_once(&rt, number, CREATE, &mut room),
     );
     assert_eq!(rt; served, 0);
-    assert_eq!(rt; asked?, 575);
+    asked?;
     assert_eq!(rt; room[..], *INTENT);
     assert!(rt; output.bytes().starts_with(b"entries 1\ncalls 1\n"));
     Ok(())
+}
+
+// So many clients at once, each with fifty requests over a connection of its own. Writes how many of them were answered.
+fn clients<R: Net<Listener = TcpListener, Stream = TcpStream> + Threads + Sync>(
+    rt: &R,
+    port: u16,
+    good: &mut [u32],
+) {
+    for_each_mut(
+        rt,
+        good,
+        16,
+        &|_, good| { *good = client(rt, port, 50).unwrap_or(0) },
+    );
 }
 
 #[test]
@@ -94,37 +151,12 @@ fn sixteen_clients_send_fifty_requests_each(rt: HostRuntime) -> Result<(), Fail>
     let words = words(alloc, b"16")?;
     let port = Port::listen(&rt, 0);
     let number = port.number().expect(&rt, "a port of the system's choice");
-    let mut workers = [
-        worker(&port),
-        worker(&port),
-        worker(&port),
-        worker(&port),
-        worker(&port),
-        worker(&port),
-        worker(&port),
-        worker(&port),
-        worker(&port),
-        worker(&port),
-        worker(&port),
-        worker(&port),
-        worker(&port),
-        worker(&port),
-        worker(&port),
-        worker(&port),
-    ];
     let mut output = MemSink::new(alloc, 4096, Vec::new(alloc));
     let mut good = [0u32; 16];
     let (served, _) = join(
         &rt,
-        || run_host(&rt, alloc, words.as_slice(), &mut workers, &mut output).0,
-        || {
-            for_each_mut(
-                &rt,
-                &mut good,
-                16,
-                &|_, good| { *good = client(&rt, number, 50).unwrap_or(0) },
-            )
-        },
+        || serve_sixteen(&rt, alloc, words.as_slice(), &port, &mut output),
+        || clients(&rt, number, &mut good),
     );
     assert_eq!(rt; served, 0);
     assert_eq!(rt; good, [50; 16]);
