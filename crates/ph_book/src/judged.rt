@@ -78,13 +78,7 @@ fn is_text(key: &[u8]) -> bool
 }
 
 // What a call of an account asks under a key.
-fn asked(
-    alloc: Global,
-    account: u64,
-    raw: &Raw,
-    tree: Form,
-    key: &Bytes,
-) -> Result<Asked, NoMemory>
+fn asked(alloc: Global, account: u64, raw: &Raw, tree: Form, key: &Bytes) -> Result<Asked, NoMemory>
     ensures { IfOk result (λ asked. asked ≡ spec.asked_by account raw.now tree key.now) }
 {
     Ok(Asked {
@@ -99,13 +93,7 @@ fn asked(
 }
 
 // What a request of this call by an account comes to, which was read from this form.
-fn keyed(
-    alloc: Global,
-    account: u64,
-    raw: &Raw,
-    call: Call,
-    tree: Form,
-) -> Result<Judged, NoMemory>
+fn keyed(alloc: Global, account: u64, raw: &Raw, call: Call, tree: Form) -> Result<Judged, NoMemory>
     ensures { IfOk result (λ judged. judged ≡ spec.keyed_request account raw.now call tree (spec.key_of raw.now)) }
 {
     match key_of(raw) {

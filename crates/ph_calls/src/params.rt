@@ -10,9 +10,9 @@ use ph_errors::{ApiError, Refusal};
 use ph_form::Form;
 use ph_items::{AccountType, CancellationReason, CaptureMethod, PaymentMethod, RefundReason};
 use ph_kinds::{
-    Authentication, Flaw, Meta, account_type_at, amount_at, authentication_at, cancellation_reason_at,
-    capture_method_at, currency_at, id_at, metadata_at, number_at, payment_method_at,
-    refund_reason_at, text_at, truth_at,
+    Authentication, Flaw, Meta, account_type_at, amount_at, authentication_at,
+    cancellation_reason_at, capture_method_at, currency_at, id_at, metadata_at, number_at,
+    payment_method_at, refund_reason_at, text_at, truth_at,
 };
 use ph_money::{Amount, Currency};
 use std::alloc::Global;

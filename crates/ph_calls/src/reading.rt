@@ -88,13 +88,7 @@ fn make_call(
 }
 
 /// What a request of a call by an account, with an id and a form, is read as.
-fn read_by(
-    alloc: Global,
-    account: u64,
-    name: Name,
-    id: &[u8],
-    form: &Form,
-) -> Result<Call, Refusal>
+fn read_by(alloc: Global, account: u64, name: Name, id: &[u8], form: &Form) -> Result<Call, Refusal>
     ensures call { IfOk result (λ call. reading_by account name id.now (Ok form.now) ≡ Ok call) }
     ensures refusal { IfErr result (Refuses (reading_by account name id.now (Ok form.now))) }
 {

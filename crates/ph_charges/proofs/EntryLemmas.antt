@@ -137,8 +137,7 @@ splits_stand : (state : ViewState) (batch : BatchState) (place account object : 
     → AllStand state batch (split_rows place account object charge amount now)
 splits_stand state batch place account object charge amount now began is begun texts =
     by_kind (AllStand state batch) place account object charge amount now
-    (first (fee_of charge.currency amount), tt)
-    (
+    (first (fee_of charge.currency amount), tt) (
       first (fee_of charge.currency amount + fee_taken charge amount),
       fees_stand state (after batch (row (fee_of charge.currency amount + fee_taken charge amount))) (place + 1) account object charge
           (fee_taken charge amount) now began (next_number batch (row (fee_of charge.currency amount + fee_taken charge amount)) place is)

@@ -172,14 +172,7 @@ fn add_payment_rows(
 }
 
 // The application fee of a place, of a charge, that is taken from an account.
-fn split_fee(
-    place: u64,
-    account: u64,
-    object: u64,
-    charge: &Charge,
-    taken: Amount,
-    now: u64,
-) -> Fee
+fn split_fee(place: u64, account: u64, object: u64, charge: &Charge, taken: Amount, now: u64) -> Fee
     requires { place < 2 ^ 63 }
     ensures { result ≡ split_fee place account object charge.now taken now }
 {
@@ -266,15 +259,7 @@ fn add_destination(
     ensures { OnOk result (batch.new ≡ with_split (destination_split place destination account object charge.now amount batch.old.at) batch.old) }
 {
     add_plain(account, object, charge, amount, batch)?;
-    add_transfer_rows(
-        alloc,
-        place + 1,
-        destination,
-        object,
-        charge,
-        amount,
-        batch,
-    )?;
+    add_transfer_rows(alloc, place + 1, destination, object, charge, amount, batch)?;
     let taken = fee_taken(charge, amount);
     add_payment_rows(
         alloc,
@@ -320,7 +305,11 @@ pub fn add_split(
 fn fee_at(place: u64, taken: Amount) -> Option<u64>
     ensures { result ≡ fee_at place taken }
 {
-    if taken.units() == 0 { None } else { Some(place) }
+    if taken.units() == 0 {
+        None
+    } else {
+        Some(place)
+    }
 }
 
 // The number of the application fee in a split whose first row has this place.
@@ -352,13 +341,7 @@ fn transfer_in(destination: Option<u64>, place: u64) -> Option<u64>
 }
 
 /// What a charge of an account keeps of the capture of an amount now, where the first row of its split has this place.
-pub fn split_capture(
-    place: u64,
-    account: u64,
-    charge: &Charge,
-    amount: Amount,
-    now: u64,
-) -> Capture
+pub fn split_capture(place: u64, account: u64, charge: &Charge, amount: Amount, now: u64) -> Capture
     requires { place < 2 ^ 62 }
     ensures { result ≡ split_capture place account charge.now amount now }
 {
@@ -366,6 +349,11 @@ pub fn split_capture(
         transaction: place,
         available_on: available_from(&charge.payment_method, now),
         transfer: transfer_in(charge.destination, place),
-        fee: fee_in(charge.destination, place, account, fee_taken(charge, amount)),
+        fee: fee_in(
+            charge.destination,
+            place,
+            account,
+            fee_taken(charge, amount),
+        ),
     }
 }

@@ -203,6 +203,8 @@ capture_keeps state entry account call ready texts =
         (λ bounds. cond_both wrong (invalid_value (codes "application_fee_amount")) captures (KeepsRows state 13)
         (λ taken. wrong_value (codes "application_fee_amount"))
         (λ right.
-        let no_more : nat_lt intent.amount_capturable amount ≡ false = second_fails (amount == 0) (nat_lt intent.amount_capturable amount) bounds in
-        (of_charge row intent there found amount (grind (arith, nat_tests)) step.1 intent.latest_charge
-        (ready.sound.laws.held row.object row intent there.latest there.is step.0), may)))
+        let no_more : nat_lt intent.amount_capturable amount ≡ false = second_fails (amount == 0) (nat_lt intent.amount_capturable amount) bounds in (
+          of_charge row intent there found amount (grind (arith, nat_tests)) step.1 intent.latest_charge
+              (ready.sound.laws.held row.object row intent there.latest there.is step.0),
+          may,
+        )))

@@ -215,7 +215,7 @@ settled_enters state entry how row intent_row attempt intent ready stood there =
           underway = underway;
           few = captured_rows;
           leave = λ other differs. captured_leaves state other account number charge charge.amount (before ruling.Approved) ready.sound.order
-          ready.sound.laws.held (omega arith) (tt, tt) (loose other);
+              ready.sound.laws.held (omega arith) (tt, tt) (loose other);
         }) new_texts refl
         (subst (λ (charge : Option ℕ). HasOrigins (state.rows ++ captured.rows) (charge_named charge)) (sym latest)
         (charge_begun underway, tt))
@@ -328,14 +328,14 @@ settled_enters state entry how row intent_row attempt intent ready stood there =
           few = omega arith;
           shown = shows_both attempt_state.Declined status.RequiresPaymentMethod;
           enters = ruled_enters state intent_row intent new event.IntentPaymentFailed batch ready there
-        (record {
-          underway = underway;
-          few = omega arith;
-          leave = λ other differs. (tt, (loose other, tt));
-        }) (failed_texts intent (payment_error.Declined decline) status.RequiresPaymentMethod texts) refl
-        (has_begun_origin _ failed (each_begun state batch.rows underway.continues.follow).1.0, tt)
-        (decline_keeps state account object intent (before (ruling.Declined decline)) (version new batch ∷ []) ready.sound refl refl refl)
-        (λ here. absurd (cc));
+              (record {
+                underway = underway;
+                few = omega arith;
+                leave = λ other differs. (tt, (loose other, tt));
+              }) (failed_texts intent (payment_error.Declined decline) status.RequiresPaymentMethod texts) refl
+              (has_begun_origin _ failed (each_begun state batch.rows underway.continues.follow).1.0, tt)
+              (decline_keeps state account object intent (before (ruling.Declined decline)) (version new batch ∷ []) ready.sound refl refl refl)
+              (λ here. absurd (cc));
         }) (omega arith)
     ruled ruling.Challenge =
         let batch = before ruling.Challenge in
@@ -346,8 +346,8 @@ settled_enters state entry how row intent_row attempt intent ready stood there =
           few = omega arith;
           shown = shows_both attempt_state.Challenged status.RequiresAction;
           enters = ruled_enters state intent_row intent new event.IntentRequiresAction batch ready there (begun ruling.Challenge) texts refl (before_it batch)
-        (laws_held state.rows (batch.rows ++ version new batch ∷ []) refl ready.sound.laws)
-        (λ here. absurd (cc));
+              (laws_held state.rows (batch.rows ++ version new batch ∷ []) refl ready.sound.laws)
+              (λ here. absurd (cc));
         }) (omega arith)
 
 -- ---- a ruling on an attempt

@@ -15,8 +15,8 @@ use crate::metadata::{Meta, is_metadata, pairs_of};
 use crate::methods::read_method;
 use crate::numbers::{read_amount, read_whole};
 use crate::words::{
-    read_account_type, read_authentication, read_cancellation_reason, read_capture_method, read_currency,
-    read_refund_reason, read_truth,
+    read_account_type, read_authentication, read_cancellation_reason, read_capture_method,
+    read_currency, read_refund_reason, read_truth,
 };
 use ph_address::{Address, read_address};
 use ph_base::Bytes;
