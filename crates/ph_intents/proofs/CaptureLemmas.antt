@@ -94,7 +94,7 @@ captured_enters state entry account row intent n last charge amount fee found re
         (underway_further state captured row (item.Intent received) ready.sound.order
         (capture_underway state batch n amount fee last charge ready.sound (begins state entry) (omega arith) latest is
         (ap charge_kind holds.sort) holds.nothing enough)
-        there.stands (omega arith)
+        there.stands (omega (arith, few))
         (record {
           texts = found_texts state account row intent ready.sound there;
           within = tt;

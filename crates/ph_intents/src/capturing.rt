@@ -78,16 +78,16 @@ fn capture_with<V: View>(
     view: &V,
     account: u64,
     amount: Amount,
-    fee: Option<Amount>,
+    fee: &Option<Amount>,
     object: u64,
     intent: &Intent,
     status: IntentStatus,
     batch: &mut Batch,
 ) -> Result<u64, Refusal>
-    ensures { Gives (captured_with (V.state view.now).rows account amount fee batch.old object intent.now status) batch.old result batch.new }
+    ensures { Gives (captured_with (V.state view.now).rows account amount fee.now batch.old object intent.now status) batch.old result batch.new }
 {
-    capture_charge(alloc, view, amount, fee, intent.latest_charge, batch)?;
-    let received = received_with(alloc, amount, fee, intent, status)?;
+    capture_charge(alloc, view, amount, *fee, intent.latest_charge, batch)?;
+    let received = received_with(alloc, amount, *fee, intent, status)?;
     let sort = EventKind::IntentSucceeded;
     tell_all(alloc, account, object, received, sort, batch)?;
     Ok(object)
@@ -99,13 +99,13 @@ fn capture_amount<V: View>(
     view: &V,
     account: u64,
     amount: Amount,
-    fee: Option<Amount>,
+    fee: &Option<Amount>,
     object: u64,
     intent: &Intent,
     status: IntentStatus,
     batch: &mut Batch,
 ) -> Result<u64, Refusal>
-    ensures { Gives (capture_amount (V.state view.now).rows account amount fee batch.old object intent.now status) batch.old result batch.new }
+    ensures { Gives (capture_amount (V.state view.now).rows account amount fee.now batch.old object intent.now status) batch.old result batch.new }
 {
     if is_out_of_bounds(amount, intent.amount_capturable) {
         return Err(invalid_value(alloc, b"amount_to_capture"));
@@ -124,12 +124,12 @@ fn capture_intent<V: View>(
     view: &V,
     account: u64,
     amount: Option<Amount>,
-    fee: Option<Amount>,
+    fee: &Option<Amount>,
     object: u64,
     intent: &Intent,
     batch: &mut Batch,
 ) -> Result<u64, Refusal>
-    ensures { Gives (capture_of (V.state view.now).rows account amount fee batch.old object intent.now) batch.old result batch.new }
+    ensures { Gives (capture_of (V.state view.now).rows account amount fee.now batch.old object intent.now) batch.old result batch.new }
 {
     match next_status(intent.status, Step::Capture) {
         Some(status) => {
@@ -163,7 +163,7 @@ pub fn capture<V: View>(
         return Err(no_such_intent(alloc));
     };
     let amount = call.amount_to_capture;
-    let fee = call.application_fee_amount;
+    let fee = &call.application_fee_amount;
     let object = row.object;
     capture_intent(alloc, view, account, amount, fee, object, intent, batch)
 }

@@ -17,10 +17,10 @@ fn is_of_nobody(account: u64, destination: Option<u64>, fee: Option<Amount>) -> 
 pub fn is_wrong_fee(
     account: u64,
     destination: Option<u64>,
-    fee: Option<Amount>,
+    fee: &Option<Amount>,
     amount: Amount,
 ) -> bool
-    ensures { result ≡ is_wrong_fee account destination fee amount }
+    ensures { result ≡ is_wrong_fee account destination fee.now amount }
 {
-    is_fee_above(fee, amount) || is_of_nobody(account, destination, fee)
+    is_fee_above(*fee, amount) || is_of_nobody(account, destination, *fee)
 }

@@ -101,7 +101,7 @@ fn update_with(
     if intent.amount < intent.currency.minimum() {
         return Err(amount_too_small(alloc));
     }
-    if is_wrong_fee(account, intent.destination, fee, intent.amount) {
+    if is_wrong_fee(account, intent.destination, &fee, intent.amount) {
         return Err(invalid_value(alloc, b"application_fee_amount"));
     }
     if intent.metadata.len() > MOST_KEYS {
