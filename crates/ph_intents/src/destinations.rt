@@ -2,7 +2,7 @@
 ghost use Rattle.std.specs.Prelude.{◌≡◌, IfErr, IfOk, Ok};
 ghost use Rattle.std.specs.Option.{option_copied};
 ghost use Rattle.ph_calls.specs.Check.{Refuses};
-ghost use Rattle.ph_intents.specs.Destinations.{connected_named, destination_of};
+ghost use Rattle.ph_intents.specs.Destinations.{connected_named, destination_of, to_found};
 
 use ph_base::{Bytes, Kind};
 use ph_errors::{ApiError, Refusal};
@@ -22,6 +22,20 @@ fn connected_named<V: View>(view: &V, text: &[u8]) -> Option<u64>
     }
 }
 
+// The destination that was found, or the refusal of one that isn't there.
+fn to_found(alloc: Global, found: Option<u64>) -> Result<Option<u64>, Refusal>
+    ensures account { IfOk result (λ account. to_found found ≡ Ok account) }
+    ensures refusal { IfErr result (Refuses (to_found found)) }
+{
+    match found {
+        Some(account) => Ok(Some(account)),
+        None => {
+            let name = b"transfer_data[destination]";
+            Err(Refusal::of(ApiError::no_such_object(alloc, name)))
+        }
+    }
+}
+
 /// The number of the connected account that a create names as its destination, or none where it names none. It is
 /// refused where there is no such account.
 pub fn destination_of<V: View>(
@@ -35,11 +49,5 @@ pub fn destination_of<V: View>(
     let Some(text) = named else {
         return Ok(None);
     };
-    match connected_named(view, text.as_slice()) {
-        Some(account) => Ok(Some(account)),
-        None => {
-            let name = b"transfer_data[destination]";
-            Err(Refusal::of(ApiError::no_such_object(alloc, name)))
-        }
-    }
+    to_found(alloc, connected_named(view, text.as_slice()))
 }

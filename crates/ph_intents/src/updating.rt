@@ -91,17 +91,17 @@ fn updated_intent(
 fn update_with(
     alloc: Global,
     account: u64,
-    fee: Option<Amount>,
+    fee: &Option<Amount>,
     object: u64,
     intent: Intent,
     batch: &mut Batch,
 ) -> Result<u64, Refusal>
-    ensures { (status : IntentStatus) → Gives (update_with account fee batch.old object status intent) batch.old result batch.new }
+    ensures { (status : IntentStatus) → Gives (update_with account fee.now batch.old object status intent) batch.old result batch.new }
 {
     if intent.amount < intent.currency.minimum() {
         return Err(amount_too_small(alloc));
     }
-    if is_wrong_fee(account, intent.destination, &fee, intent.amount) {
+    if is_wrong_fee(account, intent.destination, fee, intent.amount) {
         return Err(invalid_value(alloc, b"application_fee_amount"));
     }
     if intent.metadata.len() > MOST_KEYS {
@@ -125,7 +125,7 @@ fn update_intent(
     match next_status(intent.status, step_of(call)) {
         Some(status) => {
             let updated = updated_intent(alloc, call, intent, status)?;
-            let fee = call.application_fee_amount;
+            let fee = &call.application_fee_amount;
             update_with(alloc, account, fee, object, updated, batch)
         }
         None => Err(unexpected_state(alloc)),
