@@ -409,8 +409,9 @@ impl Book {
         if weights::has_no_two_places(&self.setup, places) {
             return Err(Refused::Full);
         }
+        let weight = self.weight;
         match self.attempts.parked() {
-            Some(reference) => match self.take_up(caller, Deed::Resume, reference, self.weight) {
+            Some(reference) => match self.take_up(caller, Deed::Resume, reference, weight) {
                 Ok(ticket) => Ok(Some(ticket)),
                 Err(_deed) => Err(Refused::NoMemory),
             },

@@ -1,6 +1,11 @@
 //! What the steps of a request before its own make of it.
-ghost use Rattle.std.specs.Prelude.{◌≡◌, IfOk, option_copied};
+ghost use Rattle.std.specs.Prelude.{◌≡◌, IfErr, IfOk, Some, option_copied};
 ghost use Rattle.std.specs.Str.{is_utf8};
+ghost use Rattle.ph_errors.specs.declared.api_error.ApiError.{ApiError};
+ghost use Rattle.ph_errors.specs.declared.refusal.Refusal.TheVariants.{Api};
+ghost use Rattle.ph_calls.specs.declared.call.Call.{Call};
+ghost use Rattle.ph_book.specs.declared.judged.Judged.{Judged};
+ghost use Rattle.ph_book.specs.declared.judged.Judged.TheVariants.{Refused, Accepted};
 ghost use Rattle.ph_book.specs.Keys as spec;
 ghost use Rattle.ph_calls.specs.Reading.{form_of, reading_of};
 
@@ -92,22 +97,44 @@ fn asked(alloc: Global, account: u64, raw: &Raw, tree: Form, key: &Bytes) -> Res
     })
 }
 
-// What a request of this call by an account comes to, which was read from this form.
-fn keyed(alloc: Global, account: u64, raw: &Raw, call: Call, tree: Form) -> Result<Judged, NoMemory>
-    ensures { IfOk result (λ judged. judged ≡ spec.keyed_request account raw.now call tree (spec.key_of raw.now)) }
+// What is asked under a key by a request of an account that was read from this form, or what is wrong with the key.
+fn under(alloc: Global, account: u64, raw: &Raw, tree: Form, key: &Bytes) -> Result<Asked, Refusal>
+    ensures asked { (call : Call) → IfOk result (λ asked. spec.keyed_request account raw.now call tree (Some key.now) ≡ Accepted account call (Some asked)) }
+    ensures refused { (call : Call) → IfErr result (λ refusal. (error : ApiError) → refusal ≡ Api error → spec.keyed_request account raw.now call tree (Some key.now) ≡ Refused error) }
+{
+    if 255 < key.as_slice().len() {
+        return Err(Refusal::Api(ApiError::key_too_long(alloc)?));
+    }
+    if !is_text(key.as_slice()) {
+        return Err(Refusal::Api(ApiError::key_not_text(alloc)?));
+    }
+    Ok(asked(alloc, account, raw, tree, key)?)
+}
+
+// What is asked by a request of an account that was read from this form, where it has a key, or what is wrong with the
+// key.
+fn asks(alloc: Global, account: u64, raw: &Raw, tree: Form) -> Result<Option<Asked>, Refusal>
+    ensures asked { (call : Call) → IfOk result (λ asked. spec.keyed_request account raw.now call tree (spec.key_of raw.now) ≡ Accepted account call asked) }
+    ensures refused { (call : Call) → IfErr result (λ refusal. (error : ApiError) → refusal ≡ Api error → spec.keyed_request account raw.now call tree (spec.key_of raw.now) ≡ Refused error) }
 {
     match key_of(raw) {
-        None => Ok(Judged::Accepted(account, call, None)),
-        Some(key) => {
-            if 255 < key.as_slice().len() {
-                Ok(Judged::Refused(ApiError::key_too_long(alloc)?))
-            } else if !is_text(key.as_slice()) {
-                Ok(Judged::Refused(ApiError::key_not_text(alloc)?))
-            } else {
-                let asked = asked(alloc, account, raw, tree, key)?;
-                Ok(Judged::Accepted(account, call, Some(asked)))
-            }
-        }
+        None => Ok(None),
+        Some(key) => match under(alloc, account, raw, tree, key) {
+            Ok(asked) => Ok(Some(asked)),
+            Err(refusal) => Err(refusal),
+        },
+    }
+}
+
+// What a request of this call by an account comes to that asks this, or whose key is refused.
+fn keyed(account: u64, call: Call, given: Result<Option<Asked>, Refusal>) -> Result<Judged, NoMemory>
+    ensures { (judged : Judged) → IfOk given (λ asked. judged ≡ Accepted account call asked) → IfErr given (λ refusal. (error : ApiError) → refusal ≡ Api error → judged ≡ Refused error)
+        → IfOk result (λ made. made ≡ judged) }
+{
+    match given {
+        Ok(asked) => Ok(Judged::Accepted(account, call, asked)),
+        Err(Refusal::Api(error)) => Ok(Judged::Refused(error)),
+        Err(Refusal::NoMemory) => Err(NoMemory),
     }
 }
 
@@ -116,7 +143,7 @@ fn read(alloc: Global, account: u64, raw: &Raw) -> Result<Judged, NoMemory>
     ensures { IfOk result (λ judged. judged ≡ spec.read_request account raw.now (reading_of account raw.now)) }
 {
     match read_call(alloc, account, raw) {
-        Ok(request) => keyed(alloc, account, raw, request.call, request.form),
+        Ok(request) => keyed(account, request.call, asks(alloc, account, raw, request.form)),
         Err(Refusal::Api(error)) => Ok(Judged::Refused(error)),
         Err(Refusal::NoMemory) => Err(NoMemory),
     }

@@ -59,8 +59,8 @@ returns-then-is_parked c keys caller serve =
     (made.Resuming c.in-Begun.reference))
     (sym is) (record { effect_is = refl; parked = parked })
 
-pub returns-else-is_parked : goal.returns-else-is_parked
-returns-else-is_parked c keys caller serve =
+pub returns-in-Begun : goal.returns-in-Begun
+returns-in-Begun c keys caller serve =
     let store = c.args.store.now in
     let asked = c.args.asked in
     let there = c.find.ensures ∙ ap (λ (p : List ℕ × ℕ). found_in asked.account p.0 asked.shape p.1 c.args.records.now) (λ i. (c.as_slice.ensures i, c.time-now.ensures i)) in
@@ -70,10 +70,10 @@ returns-else-is_parked c keys caller serve =
     (call_effect (Some asked.key) (is_fresh what) store.rows store.time c.args.place caller (by_found keys store.rows (empty_batch (length store.rows) store.time c.args.place) own what)) called))
     (sym is)
     (c.refused-else-is_parked.ensures store.rows store.time c.args.place caller (Some asked) (replied_effect false (error_reply (error_of KeyInUse)) store.time)
-    (ap (λ (e : ApiError). Replies (error_reply e)) (sym c.in_ok-key_in_use-else-is_parked.ensures)) refl refl (sym c.time-now.ensures))
+    (ap (λ (e : ApiError). Replies (error_reply e)) (sym c.in_ok-key_in_use-in-Begun.ensures)) refl refl (sym c.time-now.ensures))
 
-pub returns-in-Saved : goal.returns-in-Saved
-returns-in-Saved c keys caller serve =
+pub returns : goal.returns
+returns c keys caller serve =
     let store = c.args.store.now in
     let asked = c.args.asked in
     let there = c.find.ensures ∙ ap (λ (p : List ℕ × ℕ). found_in asked.account p.0 asked.shape p.1 c.args.records.now) (λ i. (c.as_slice.ensures i, c.time-now.ensures i)) in

@@ -56,8 +56,8 @@ returns-in-Ok-Shown c caller =
     (ap (λ (u : Upshot). (call_effect key opens store.rows store.time c.args.place caller u).rows) is)
     (ap (λ (u : Upshot). (call_effect key opens store.rows store.time c.args.place caller u).now) is ∙ sym c.time-in-Ok-Shown.ensures)
 
-pub returns-in-Ok-Set : goal.returns-in-Ok-Set
-returns-in-Ok-Set c caller =
+pub returns-in_ok-clock_doc-in-Ok-Set : goal.returns-in_ok-clock_doc-in-Ok-Set
+returns-in_ok-clock_doc-in-Ok-Set c caller =
     let store = c.args.store.now in
     let key = key_asked c.args.asked in
     let opens = is_some c.args.asked in

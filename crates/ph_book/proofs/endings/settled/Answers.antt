@@ -1,5 +1,5 @@
 use Rattle.std.proofs.Common.{◌≡◌, ℕ, List, None, length, sym, ap, ◌∙◌}
-use Rattle.ph_rows.specs.Batches.{BatchState, empty_batch}
+use Rattle.ph_rows.specs.Batches.{BatchState, empty_batch, made_rows}
 use Rattle.ph_rows.specs.declared.rows.Row.{Row}
 use Rattle.ph_intents.specs.Settle.{settle_outcome}
 use Rattle.ph_book.specs.Calls.{and_opened}
@@ -28,5 +28,5 @@ returns-clause-rows c =
     c.new-batch.ensures ∙ ap (λ (p : List Row × ℕ). empty_batch (length p.0) p.1 c.args.place) (λ i. (c.rows.ensures.rows i, c.time.ensures i)) in
     let both = ruled_seen (record_key (find (is_attached c.args.attempt) c.args.records.now)) store.rows (settle_outcome store.rows c.args.attempt c.args.ruling c.new-batch.result) c.in_ok-object.object c.settle.new.batch
     c.open_due.new.batch c.in_ok-object.ensures c.in_ok-open_due.ensures store.time c.args.ruling in
-    c.in_ok-rows.ensures ∙ sym both.1
+    c.in_ok-rows.ensures ∙ ap (λ k. made_rows k c.open_due.new.batch) (c.key_in.ensures ∙ ap record_key c.waiting-record.ensures) ∙ sym both.1
     ∙ ap (λ (b : BatchState). outcome_rows (record_key (find (is_attached c.args.attempt) c.args.records.now)) (and_opened store.rows (settle_outcome store.rows c.args.attempt c.args.ruling b))) begun

@@ -43,8 +43,8 @@ enter-requires-clause-opening c =
     c.args.called _ c.in-Answered.is c.requires.called in
     answered_opening asks effect c.in-Answered.reply c.in-Answered.opening made.said made.opening
 
-pub returns-in-Ok-enter-clause-answer : goal.returns-in-Ok-enter-clause-answer
-returns-in-Ok-enter-clause-answer c =
+pub returns-in-Ok-clause-answer : goal.returns-in-Ok-clause-answer
+returns-in-Ok-clause-answer c =
     let book = c.args.self.now in
     let effect = effect_to book.setup book.history (call_entry c.args.caller c.args.raw) in
     let asks = asks_to book.setup book.history (deed.Call c.args.raw) in

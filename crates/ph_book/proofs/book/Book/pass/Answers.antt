@@ -18,7 +18,7 @@ invariant_of-self-2 c =
           entries (c.in-Ok.ensures.rows ∙ sym (append-nil c.self.inside.store.rows)) c.in-Ok.ensures.time (omega arith) refl refl,
       record {
         for_entries = omega (arith, count, c.in-Ok.ensures.entries_room, c.push_reserved.ensures.capacity);
-        for_rows = c.in-Ok.ensures.rows_room;
+        for_rows = omega (arith, c.in-Ok.ensures.rows_room);
         for_replies = room.for_replies;
         for_weight = room.for_weight;
       },
