@@ -1,5 +1,5 @@
 //! Payment intents.
-ghost use Rattle.std.specs.Prelude.{◌≡◌, [], ◌∷◌, ◌++◌, IfOk, OnOk, OnErr, option_map, codes};
+ghost use Rattle.std.specs.Prelude.{◌≡◌, [], ◌∷◌, ◌++◌, Some, IfOk, OnOk, OnErr, option_map, codes};
 ghost use Rattle.ph_items.specs.Words.{cancellation_reason_text};
 ghost use Rattle.ph_json.specs.Values.{text_or_null};
 ghost use Rattle.ph_views.specs.Intents.{intent_doc, amount_members, name_members, progress_members, last_error_doc, next_action_doc, authenticate_doc, client_secret_of, transfer_data_doc};
@@ -70,12 +70,17 @@ fn transfer_data(alloc: Global, destination: Option<u64>) -> Result<Doc, NoMemor
 {
     match destination {
         None => Ok(Doc::Null),
-        Some(destination) => {
-            let mut members = Members::new(alloc);
-            put_id(&mut members, "destination", Kind::Account, destination)?;
-            Ok(members.done())
-        }
+        Some(destination) => to_destination(alloc, destination),
     }
+}
+
+// What is captured goes to a destination.
+fn to_destination(alloc: Global, destination: u64) -> Result<Doc, NoMemory>
+    ensures { IfOk result (λ doc. doc ≡ transfer_data_doc (Some destination)) }
+{
+    let mut members = Members::new(alloc);
+    put_id(&mut members, "destination", Kind::Account, destination)?;
+    Ok(members.done())
 }
 
 // Which one, made when, and what its owner says of it.
