@@ -127,7 +127,11 @@ fn asks(alloc: Global, account: u64, raw: &Raw, tree: Form) -> Result<Option<Ask
 }
 
 // What a request of this call by an account comes to that asks this, or whose key is refused.
-fn keyed(account: u64, call: Call, given: Result<Option<Asked>, Refusal>) -> Result<Judged, NoMemory>
+fn keyed(
+    account: u64,
+    call: Call,
+    given: Result<Option<Asked>, Refusal>,
+) -> Result<Judged, NoMemory>
     ensures { (judged : Judged) → IfOk given (λ asked. judged ≡ Accepted account call asked) → IfErr given (λ refusal. (error : ApiError) → refusal ≡ Api error → judged ≡ Refused error)
         → IfOk result (λ made. made ≡ judged) }
 {
@@ -143,7 +147,11 @@ fn read(alloc: Global, account: u64, raw: &Raw) -> Result<Judged, NoMemory>
     ensures { IfOk result (λ judged. judged ≡ spec.read_request account raw.now (reading_of account raw.now)) }
 {
     match read_call(alloc, account, raw) {
-        Ok(request) => keyed(account, request.call, asks(alloc, account, raw, request.form)),
+        Ok(request) => keyed(
+            account,
+            request.call,
+            asks(alloc, account, raw, request.form),
+        ),
         Err(Refusal::Api(error)) => Ok(Judged::Refused(error)),
         Err(Refusal::NoMemory) => Err(NoMemory),
     }
