@@ -1,6 +1,8 @@
 #!/usr/bin/env bash
-# Requests a second through `payhost stdio`, and its memory, for more and more creates in one session, and for as many
-# retrieves behind them, whose look-up reads the rows; then one request with each of the worst bodies and heads, none of which may take over 50 ms. Wants python3.
+# Requests a second through `payhost stdio`, and its memory, for more and more creates in one session, for as many retrieves
+# behind them, whose look-up reads the rows, and for as many creates each under an idempotency key of its own, whose look-up
+# reads the records of keys; then one request with each of the worst bodies and heads, none of which may take over 50 ms.
+# Wants python3.
 #
 #   bench/stdio.sh [CREATES ..]     how many creates, one session each (1000 2000 4000)
 #
@@ -36,12 +38,17 @@ def run(text):
         return took, used.ru_maxrss, sink.read()
 
 
+def under_key(i):
+    """A create under the i-th key, which has the length of those that client libraries make."""
+    return request("amount=2000&currency=usd", "Idempotency-Key: 7c9e6679-7425-40de-944b-%012d\r\n" % i)
+
+
 create = request("amount=2000&currency=usd")
 empty = min(run(b"")[0] for _ in range(5))
 print("an empty session takes %.1f ms of a processor" % (1000 * empty))
 retrieve = b"GET /v1/payment_intents/pi_0000000000000002 HTTP/1.1\r\nHost: localhost\r\n" + KEY.encode() + b"\r\n"
-print("%8s %10s %10s %12s %16s %12s %12s" % (
-    "creates", "seconds", "a second", "peak memory", "bytes a create", "retrieves", "a second"))
+print("%8s %10s %10s %12s %16s %12s %12s %12s %12s" % (
+    "creates", "seconds", "a second", "peak memory", "bytes a create", "retrieves", "a second", "under keys", "a second"))
 _, base, _ = run(b"")
 for count in counts:
     took, peak, output = run(create * count)
@@ -51,8 +58,11 @@ for count in counts:
     both, _, output = run(create * count + retrieve * count)
     if output.count(b"HTTP/1.1 200 OK\r\n") != 2 * count:
         sys.exit("%d retrieves weren't all answered" % count)
-    print("%8d %10.3f %10.0f %8d KiB %16.0f %12.3f %12.0f" % (
-        count, took, count / took, peak, 1024 * (peak - base) / count, both - took, count / (both - took)))
+    keyed, _, output = run(b"".join(under_key(i) for i in range(count)))
+    if output.count(b"HTTP/1.1 200 OK\r\n") != count or b"Idempotent-Replayed" in output:
+        sys.exit("%d creates under keys of their own weren't all carried out" % count)
+    print("%8d %10.3f %10.0f %8d KiB %16.0f %12.3f %12.0f %12.3f %12.0f" % (
+        count, took, count / took, peak, 1024 * (peak - base) / count, both - took, count / (both - took), keyed, count / keyed))
 
 LIMIT = 65536
 

@@ -70,8 +70,8 @@ try:
 except stripe.error.IdempotencyError as error:
     expect("its key with another amount", error.http_status, 400)
 
-# An acquirer that answers the twenty-first time that it is asked, and payhost waits for nine answers a request. The library
-# is told to try again, and sends the same key each time: the third request is answered.
+# An acquirer that answers the twenty-first time that it is asked; with the patience of eight it is asked nine times a request.
+# The library is told to try again, and sends the same key each time: the third request is answered.
 stripe.max_network_retries = 2
 slow = stripe.PaymentIntent.create(amount=2500, currency="usd", payment_method="pm_payhost_slow_20", confirm=True)
 expect("a slow acquirer, after two retries", (slow.status, slow.amount_received), ("succeeded", 2500))

@@ -11,6 +11,7 @@ if ! "$python" -c 'import stripe' 2>/dev/null; then
     exit 0
 fi
 . examples/server.sh
-# The library keeps its connection open, which holds a worker; the call of payhost's own goes over a second one.
-start_server --workers 2
+# The library keeps its connection open, which holds a worker; the call of payhost's own goes over a second one. The patience
+# of eight asks a silent acquirer nine times a request, so that the retries have something to do.
+start_server --workers 2 --patience 8
 "$python" examples/stripe_python.py "http://127.0.0.1:$PORT"

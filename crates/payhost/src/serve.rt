@@ -42,7 +42,7 @@ pub fn serve<
     };
     let _ = match port.fault() {
         None => eprintln!(rt;
-            "payhost: listening on http://127.0.0.1:{number}, {count} workers, the API key is {}",
+            "payhost: listening on http://127.0.0.1:{number}, workers: {count}, the API key is {}",
             key_place(words)
         ),
         Some(why) => eprintln!(rt; "payhost: 127.0.0.1:{number} can't be listened on: {why}"),

@@ -1,25 +1,24 @@
 -- What a book makes of a call, by what it keeps.
-use Rattle.std.proofs.Common.{◌≡◌, ℕ, ◌+◌, ◌∷◌, ◌++◌, List, [], length, Option, Some, None, is_some, refl, sym, ap, ◌∙◌, subst}
-use Rattle.ph_attempts.specs.Attempts.{Begins, Step}
+use Rattle.std.proofs.Common.{◌≡◌, ℕ, ◌+◌, List, length, Option, Some, None, is_some, refl, sym, ap, ◌∙◌, subst}
+use Rattle.ph_attempts.specs.Attempts.{Begins}
 use Rattle.ph_attempts.specs.declared.flights.Attempt as flights
 use Rattle.ph_doings.specs.Kept.{step_of}
 use Rattle.ph_http.specs.declared.message.Raw.{Raw}
 use Rattle.ph_http.specs.declared.message.Reply.{Reply}
 use Rattle.ph_idem.specs.declared.asked.Asked.{Asked}
 use Rattle.ph_idem.specs.declared.key_record.KeyRecord.{KeyRecord}
-use Rattle.ph_idem.specs.Kept.{records_after}
 use Rattle.ph_items.specs.declared.orders.Order.{Order}
 use Rattle.ph_rows.specs.declared.rows.Row.{Row}
 use Rattle.ph_book.specs.declared.setup.Setup.{Setup}
 use Rattle.ph_book.specs.declared.acts.Deed.TheVariants as deed
 use Rattle.ph_book.specs.declared.acts.Entry.{Entry}
 use Rattle.ph_book.specs.declared.calls.Called.{Called}
-use Rattle.ph_book.specs.declared.calls.Opening.{Opening}
+use Rattle.ph_book.specs.declared.calls.SavedOpening.{SavedOpening}
 use Rattle.ph_idem.specs.Records.{found_in}
-use Rattle.ph_book.specs.Called.{HaveReplies, IsCalled, IsOpening, ServeKeys, asked_if, opening_of}
+use Rattle.ph_book.specs.Called.{HaveReplies, IsCalled, IsOpening, ServeKeys, asked_if, saved_opening_of}
 use Rattle.ph_book.specs.Calls.{Keys, opens}
 use Rattle.ph_book.specs.Entries.{call_entry}
-use Rattle.ph_book.specs.History.{Effect, asks_to, effect_to, keys_after, past_of, reply_at, request_effect, rows_of, saids_after, time_of, turns_after}
+use Rattle.ph_book.specs.History.{Effect, asks_to, effect_to, past_of, request_effect, rows_of, time_of}
 use Rattle.ph_book.specs.Hosts as host
 use Rattle.ph_book.specs.Keys.{asked_in, request_of}
 use Rattle.ph_book.specs.Replies.{Said, Replies, Waits}
@@ -87,12 +86,12 @@ answered_step setup history caller raw reply lawful said =
     (call_steps setup history caller raw lawful.few lawful.legal)
 
 -- it opens a record of its reply
-pub answered_opening : (asks : Option Asked) (effect : Effect) (reply : Reply) (opening : Option Opening) → effect.said ≡ Replies reply
-    → opening ≡ opening_of (asked_if effect.saves asks) reply → IsOpening asks effect opening
+pub answered_opening : (asks : Option Asked) (effect : Effect) (reply : Reply) (opening : Option SavedOpening) → effect.said ≡ Replies reply
+    → opening ≡ saved_opening_of (asked_if effect.saves asks) reply → IsOpening asks effect opening
 answered_opening asks effect reply opening said is other said_other =
     let both : Replies reply ≡ Replies other = sym said ∙ said_other in
     let same : reply ≡ other = cc in
-    is ∙ ap (opening_of (asked_if effect.saves asks)) same
+    is ∙ ap (saved_opening_of (asked_if effect.saves asks)) same
 
 -- a call that waits by itself begins its attempt
 pub waiting_step : (setup : Setup) (history : List Entry) (caller : ℕ) (raw : Raw) (order : Order) → host.IsLawful setup history

@@ -1,6 +1,6 @@
 -- What entries come to: sound rows that show what is done, which may come after the past.
-use Rattle.std.proofs.Common.{◌≡◌, ℕ, suc, ◌+◌, ◌≤◌, ◌<◌, ◌^◌, ◌∷◌, ◌++◌, max, Bool, true, false, List, [], length, Option, Some, None, is_some, refl, sym, ap, ◌∙◌, subst, length-append, arith}
-use Rattle.std.specs.Prelude.{◌==◌, cond}
+use Rattle.std.proofs.Common.{◌≡◌, ℕ, suc, ◌+◌, ◌≤◌, ◌∷◌, ◌++◌, max, Bool, true, false, List, [], length, Option, Some, None, is_some, refl, sym, ap, ◌∙◌, subst, length-append, arith}
+use Rattle.std.specs.Prelude.{◌==◌}
 use Rattle.std.proofs.lemmas.List.{append-nil}
 use Rattle.std.proofs.lemmas.Option.{cond_some, none-some}
 use Rattle.std.proofs.lemmas.Bool.{eqb-true}
@@ -69,7 +69,7 @@ use Rattle.ph_book.specs.Calls.{Keys, Upshot, Rejects, Replays, Makes, Shows, Se
 use Rattle.ph_book.specs.Keys.{asked_in, request_of}
 use Rattle.ph_book.specs.Entries.{IsWithinClock}
 use Rattle.ph_book.specs.History.{Effect, call_effect, deed_asks, effect_of, ended_effect, finish_effect, outcome_effect, outcome_said, outcome_touch, park_effect, parked_by, parked_from, parked_outcome, resume_effect, ruled_outcome, said_briefly}
-use Rattle.ph_book.specs.Replies.{Said, park_reply, ruling_reply}
+use Rattle.ph_book.specs.Replies.{Said}
 use Rattle.ph_book.specs.Runs.{if_own, own_run}
 use Rattle.ph_book.proofs.CallLemmas.{IsText, KeepsCall, KeepsJudged, carried_keeps, judged_keeps, judged_text}
 

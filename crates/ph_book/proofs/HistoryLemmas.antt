@@ -1,5 +1,5 @@
 -- One entry more, and what follows from it.
-use Rattle.std.proofs.Common.{◌≡◌, ℕ, ◌+◌, ◌^◌, ◌<◌, ◌≤◌, ◌↔◌, ◌∷◌, ◌++◌, Bool, true, false, List, [], length, Option, refl, sym, ap, ◌∙◌, subst, length-append, arith, IsTrue}
+use Rattle.std.proofs.Common.{◌≡◌, ℕ, ◌+◌, ◌^◌, ◌<◌, ◌≤◌, ◌↔◌, ◌∷◌, ◌++◌, Bool, true, false, List, [], length, refl, sym, ap, ◌∙◌, subst, length-append, arith, IsTrue}
 use Rattle.std.specs.List.{fold, flat_map, list_all, sum_by}
 use Rattle.std.proofs.lemmas.List.{append-nil}
 use Rattle.std.proofs.lemmas.List.Sums.{fold-append, sum_by-append}

@@ -25,9 +25,9 @@ use Rattle.ph_book.specs.declared.setup.Setup.{Setup}
 use Rattle.ph_book.specs.declared.acts.Deed.{Deed}
 use Rattle.ph_book.specs.declared.acts.Deed.TheVariants as deed
 use Rattle.ph_book.specs.declared.acts.Entry.{Entry}
-use Rattle.ph_book.specs.declared.calls.Opening.{Opening}
+use Rattle.ph_book.specs.declared.calls.SavedOpening.{SavedOpening}
 use Rattle.ph_book.specs.declared.endings.Saving.{Saving}
-use Rattle.ph_book.specs.Called.{IsOpening, IsResuming, asked_if, begun_records, kept_records, opening_of, opening_weight, record_key, saved_records, saving_of, saving_weight}
+use Rattle.ph_book.specs.Called.{IsOpening, IsResuming, asked_if, begun_records, kept_records, opening_weight, record_key, saved_opening_of, saved_records, saving_of, saving_weight}
 use Rattle.ph_book.specs.Entries.{TakesUp, call_entry, finish_entry, park_entry, resume_entry, tick_entry}
 use Rattle.ph_book.specs.History.{Effect, asks_to, doings_of, effect_to, finish_effect, nothing, past_of, rows_of, said_to, time_of}
 use Rattle.ph_book.specs.Legal.{IsAllowed, is_full, saved_weight, weight_of}
@@ -64,7 +64,7 @@ replied setup history records caller raw (Waits order) served steps quiet = absu
 replied setup history records caller raw Silence served steps quiet = absurd served
 
 -- after a call that is answered at once
-pub enter_keeps : (old : BookState) (setup : Setup) (history : List Entry) (rows : List Row) (time weight : ℕ) (attempts : List flights.Attempt) (records : List KeyRecord) (live place at caller : ℕ) (raw : Raw) (opening : Option Opening) (kept : List KeyRecord)
+pub enter_keeps : (old : BookState) (setup : Setup) (history : List Entry) (rows : List Row) (time weight : ℕ) (attempts : List flights.Attempt) (records : List KeyRecord) (live place at caller : ℕ) (raw : Raw) (opening : Option SavedOpening) (kept : List KeyRecord)
     → record { setup = setup; history = history } ≡ old → IsBook setup history rows time weight attempts records live → caller < 2 ^ 62
     → is_full old.setup old.history (deed.Call raw) ≡ false → step_of (effect_to old.setup old.history (call_entry caller raw)).doing ≡ None
     → IsOpening (asks_to old.setup old.history (deed.Call raw)) (effect_to old.setup old.history (call_entry caller raw)) opening
@@ -73,9 +73,9 @@ pub enter_keeps : (old : BookState) (setup : Setup) (history : List Entry) (rows
 enter_keeps old setup history rows time weight attempts records live place at caller raw opening kept is b below room stepped opens_ placed timed keeps =
     subst (λ (k : List KeyRecord). Keeps setup history (call_entry caller raw) k (opening_weight opening)) (sym keeps_here) (record {
       kept_is = replied_kept setup history caller raw reply b.few b.legal allowed none said
-          ∙ ap (λ (o : Option Opening). kept_records o (length history + 1) (time_of setup history) (records_of setup history)) (sym opening_is)
+          ∙ ap (λ (o : Option SavedOpening). kept_records o (length history + 1) (time_of setup history) (records_of setup history)) (sym opening_is)
           ∙ ap (λ (p : ℕ × List KeyRecord). kept_records opening (length history + 1) p.0 p.1) (λ i. (sym b.time_is i, sym b.records_are i));
-      well = ap (λ (o : Option Opening). list_all is_saved_well (kept_records o (length history + 1) time records)) opening_is
+      well = ap (λ (o : Option SavedOpening). list_all is_saved_well (kept_records o (length history + 1) time records)) opening_is
           ∙ opened_well (asked_if saves asks) reply (length history + 1) time records served.1 b.statuses;
       saved = ap (saved_weight saves) said ∙ opening_weighs saves asks reply (call_opens_none setup history caller raw) ∙ ap opening_weight (sym opening_is);
     })
@@ -112,7 +112,7 @@ enter_keeps old setup history rows time weight attempts records live place at ca
     served : (effect.said ≡ Replies reply) × IsServedOrWaits (Replies reply)
     served = answered.1
 
-    opening_is : opening ≡ opening_of (asked_if saves asks) reply
+    opening_is : opening ≡ saved_opening_of (asked_if saves asks) reply
     opening_is = subst (λ (x : BookState). IsOpening (asks_to x.setup x.history (deed.Call raw)) (effect_to x.setup x.history (call_entry caller raw)) opening) (sym is) opens_ reply said
 
     keeps_here : kept ≡ kept_records opening (length history + 1) time records

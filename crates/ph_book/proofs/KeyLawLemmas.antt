@@ -5,7 +5,6 @@ use Rattle.std.proofs.lemmas.Bool.Decides.{nat_tests}
 use Rattle.std.proofs.lemmas.List.{append_assoc}
 use Rattle.std.proofs.lemmas.List.Sums.{fold-append}
 use Rattle.ph_rows.specs.declared.rows.Row.{Row}
-use Rattle.ph_doings.specs.Confirmations.{begun_by}
 use Rattle.ph_doings.specs.Doings.{Doing, Leaves, Puts, Edits, Begins, Resumes, Parks, Settles}
 use Rattle.ph_doings.specs.Lawful.{MayDo}
 use Rattle.ph_doings.specs.RecordLaws.{OpensRecord}
@@ -19,7 +18,6 @@ use Rattle.ph_idem.specs.Kept.{has_key, is_like, opening_of}
 use Rattle.ph_idem.specs.Laws.{AreTold, TellsIf}
 use Rattle.ph_idem.proofs.FoundLemmas.{over_alike}
 use Rattle.ph_book.specs.declared.setup.Setup.{Setup}
-use Rattle.ph_book.specs.declared.acts.Deed.{Deed}
 use Rattle.ph_book.specs.declared.acts.Entry.{Entry}
 use Rattle.ph_book.specs.History.{Happening, and_then, asks_after, doings_after, effect_after, effect_to, happening_of, keys_after, past_of, reply_at, rows_after, said_briefly, saids_after, time_after, opening_row, turn_after, turn_of, turns_after, turns_from}
 use Rattle.ph_book.specs.History as history

@@ -1,10 +1,10 @@
 -- What is known of keys after what happened.
-use Rattle.std.proofs.Common.{◌≡◌, ℕ, suc, ◌+◌, ◌++◌, ◌∷◌, ◌==◌, nat_le, Bool, true, false, if◌then◌else◌, List, [], length, Option, Some, None, refl, sym, ap, ◌∙◌, subst}
+use Rattle.std.proofs.Common.{◌≡◌, ℕ, ◌+◌, ◌++◌, ◌∷◌, ◌==◌, nat_le, Bool, true, false, if◌then◌else◌, List, [], Option, Some, None, refl, sym, ap, ◌∙◌, subst}
 use Rattle.std.specs.List.{flat_map, fold}
 use Rattle.std.proofs.lemmas.List.{append-nil, append_assoc}
 use Rattle.ph_rows.specs.declared.rows.Row.{Row}
 use Rattle.ph_doings.specs.Doings.{Doing}
-use Rattle.ph_doings.specs.Records.{Found, Fresh, Differs, Live, Parked, Saved, Opened, Never, Opens, Said, Replies, Silence, Waits, Turn, a_day, doings_of, found_in, last_opened, result_of_attempt, result_said, said_at, time_of}
+use Rattle.ph_doings.specs.Records.{Fresh, Differs, Parked, Opened, Never, Opens, Said, Replies, Silence, Waits, Turn, a_day, doings_of, found_in, last_opened, result_of_attempt, result_said, said_at, time_of}
 use Rattle.ph_doings.specs.Standings.{Standing, NotBegun, Stands, standing_of}
 use Rattle.ph_doings.specs.Standings as attempt
 use Rattle.ph_doings.specs.Confirmations.{begun_by}

@@ -1,10 +1,9 @@
 -- What the program makes of a call under a key, by what it finds among the records.
-use Rattle.std.proofs.Common.{◌≡◌, ℕ, Bool, true, false, if◌then◌else◌, List, length, Option, Some, None, Result, IfOk, refl, sym, ap, ◌∙◌, subst}
+use Rattle.std.proofs.Common.{◌≡◌, ℕ, true, false, List, length, Some, Result, IfOk, refl, sym, ap, ◌∙◌, subst}
 use Rattle.ph_base.specs.declared.memory.NoMemory.{NoMemory}
 use Rattle.ph_doings.specs.Records.{Found}
 use Rattle.ph_doings.specs.Records as found
 use Rattle.ph_http.specs.declared.message.Raw.{Raw}
-use Rattle.ph_idem.specs.declared.asked.Asked.{Asked}
 use Rattle.ph_idem.specs.declared.found.Found.{Found as IdemFound}
 use Rattle.ph_idem.specs.declared.found.Found.TheVariants as idem
 use Rattle.ph_idem.specs.declared.key_record.KeyRecord.{KeyRecord}
@@ -16,7 +15,7 @@ use Rattle.ph_book.specs.declared.calls.Called.{Called}
 use Rattle.ph_book.specs.declared.judged.Judged.{Judged}
 use Rattle.ph_book.specs.declared.setup.Setup.{Setup}
 use Rattle.ph_book.specs.Called.{IsCalled, ServesFound, asked_if, is_row_parked}
-use Rattle.ph_book.specs.Calls.{Keys, Upshot, called_at, key_asked, opens, request_upshot}
+use Rattle.ph_book.specs.Calls.{Keys, called_at, key_asked, opens, request_upshot}
 use Rattle.ph_book.specs.History.{Effect, call_effect, request_effect}
 use Rattle.ph_book.specs.Keys.{asked_in, request_of}
 

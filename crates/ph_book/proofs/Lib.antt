@@ -6,6 +6,7 @@ pub mod HistoryLemmas
 pub mod StandLemmas
 pub mod WaitLemmas
 pub mod KeyLawLemmas
+pub mod InUseLemmas
 pub mod ServeLemmas
 pub mod RecordLemmas
 pub mod SavingLemmas

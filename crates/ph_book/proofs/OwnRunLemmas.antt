@@ -1,12 +1,12 @@
 -- The live runs of each caller after one entry more.
-use Rattle.std.proofs.Common.{◌≡◌, ℕ, ◌+◌, ◌^◌, ◌<◌, ◌==◌, ◌∷◌, Bool, true, false, cond, List, [], length, Option, Some, None, refl, sym, ap, ◌∙◌, subst, arith}
+use Rattle.std.proofs.Common.{◌≡◌, ℕ, ◌+◌, ◌^◌, ◌<◌, ◌==◌, ◌∷◌, Bool, true, false, cond, List, [], length, Option, Some, None, refl, sym, ap, ◌∙◌, arith}
 use Rattle.std.proofs.lemmas.Bool.{eq-eqb}
 use Rattle.std.proofs.lemmas.Bool.Decides.{nat_tests}
 use Rattle.ph_base.specs.declared.acquirer.Ruling.{Ruling}
 use Rattle.ph_base.specs.declared.acquirer.Why.{Why}
 use Rattle.ph_attempts.specs.Attempts.{is_same_run}
 use Rattle.ph_attempts.specs.declared.flights.Flight.{Flight}
-use Rattle.ph_doings.specs.Doings.{Doing, Leaves, Puts, Edits, Begins, Resumes, Parks, Settles}
+use Rattle.ph_doings.specs.Doings.{Doing, Parks, Settles}
 use Rattle.ph_doings.specs.Kept.{step_of}
 use Rattle.ph_doings.specs.Lawful.{IsLawful}
 use Rattle.ph_doings.specs.Runs.{Run, NoRun, Flies, ended_by, live_run}

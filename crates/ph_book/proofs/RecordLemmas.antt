@@ -1,6 +1,5 @@
 -- The records of keys that are kept after one entry more.
-use Rattle.std.proofs.Common.{◌≡◌, ℕ, suc, ◌+◌, ◌^◌, ◌<◌, ◌≤◌, ◌==◌, ◌++◌, ◌∷◌, Bool, true, false, List, [], length, map, Option, Some, None, refl, sym, ap, ◌∙◌, subst, arith}
-use Rattle.ph_doings.specs.Doings.{Doing}
+use Rattle.std.proofs.Common.{◌≡◌, ℕ, ◌^◌, ◌<◌, ◌≤◌, ◌++◌, ◌∷◌, List, [], length, map, Option, Some, refl, ap, ◌∙◌, subst, arith}
 use Rattle.ph_doings.specs.Records.{AreLawful, Found, Fresh, Differs, Live, Parked, Saved, Turn, result_of}
 use Rattle.ph_idem.specs.declared.asked.Asked.{Asked}
 use Rattle.ph_idem.specs.declared.key_record.KeyRecord.{KeyRecord}
@@ -16,7 +15,7 @@ use Rattle.ph_book.specs.State.{records_of}
 use Rattle.ph_book.proofs.HistoryLemmas.{past_more}
 use Rattle.ph_book.proofs.KeyLawLemmas.{HasTurned, legal_turned, said_from, saved_within, turn_count, turned_more}
 use Rattle.ph_book.proofs.KeyLemmas.{turns_more}
-use Rattle.ph_book.proofs.StandLemmas.{HasStood, legal_stands}
+use Rattle.ph_book.proofs.StandLemmas.{legal_stands}
 
 -- a record depends on the replies of entries that are there alone
 found_same : (reply other : ℕ → Reply) (bound : ℕ) (what : Found) → ((place : ℕ) → place ≤ bound → reply place ≡ other place)

@@ -30,7 +30,7 @@ use Rattle.ph_doings.proofs.RowLemmas.{rows_say_past}
 use Rattle.ph_book.specs.Answers.{HasStatus, IsNoPark, Says, is_ruled}
 use Rattle.ph_book.specs.declared.judged.Judged.{Judged}
 use Rattle.ph_book.specs.declared.judged.Judged.TheVariants.{Refused, Accepted}
-use Rattle.ph_book.specs.Calls.{Keys, Upshot, Rejects, Replays, Makes, Shows, Sets, by_found, called_at, carried, clock_set, is_fresh, key_asked, opens, request_upshot, resumed_by, resumed_from, resumed_outcome}
+use Rattle.ph_book.specs.Calls.{Keys, Upshot, Rejects, Replays, Makes, Shows, Sets, by_found, called_at, carried, clock_set, is_fresh, key_asked, opens, request_upshot, resumed_by, resumed_from}
 use Rattle.ph_book.specs.Called.{ServesFound}
 use Rattle.ph_book.specs.Keys.{asked_in, request_of}
 use Rattle.ph_calls.specs.declared.call.Call.{Call}
@@ -45,7 +45,7 @@ use Rattle.ph_idem.specs.Records.{found_in, saved_in}
 use Rattle.ph_items.specs.declared.attempts.Attempt.{Attempt}
 use Rattle.ph_items.specs.Items.{attempt_in}
 use Rattle.ph_book.specs.Entries.{call_entry, finish_entry}
-use Rattle.ph_book.specs.History.{call_effect, doings_after, doings_of, effect_after, effect_to, finish_effect, keys_after, outcome_said, past_of, reply_at, rows_after, ruled_outcome, said_to, saids_after, shown_or_waits, time_after, turns_after}
+use Rattle.ph_book.specs.History.{call_effect, doings_after, doings_of, effect_to, finish_effect, keys_after, outcome_said, past_of, reply_at, rows_after, ruled_outcome, said_to, saids_after, shown_or_waits, time_after, turns_after}
 use Rattle.ph_book.specs.Legal.{IsLegal}
 use Rattle.ph_book.specs.State.{BookState, IsBook, is_reply_well, is_saved_well, records_of}
 use Rattle.ph_book.specs.Tickets.{Holds}
@@ -54,7 +54,6 @@ use Rattle.ph_book.specs.declared.acts.Entry.{Entry}
 use Rattle.ph_book.specs.declared.setup.Setup.{Setup}
 use Rattle.ph_book.proofs.EffectLemmas.{own_may_end, ruled_done}
 use Rattle.ph_book.proofs.ServeLemmas.{records_serve}
-use Rattle.ph_book.proofs.HistoryLemmas.{length_past}
 use Rattle.ph_book.proofs.StandLemmas.{legal_stands, view_after}
 use Rattle.ph_book.specs.Replies.{Said, Replies, Waits, Silence, declined_reply, park_reply, ruling_reply, settled_reply, version_reply}
 use Rattle.ph_book.specs.declared.acts.Answer.{Answer}

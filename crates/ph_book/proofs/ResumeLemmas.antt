@@ -1,6 +1,6 @@
 -- Attempts that are taken up again: what a book keeps of a parked one, and what it keeps after that.
-use Rattle.std.proofs.Common.{◌≡◌, ℕ, suc, ◌+◌, ◌*◌, ◌^◌, ◌≤◌, ◌<◌, ◌==◌, ◌||◌, ◌∷◌, ◌++◌, Bool, true, false, List, [], length, Option, Some, None, option_map, option_to_list, refl, sym, ap, ◌∙◌, subst, arith}
-use Rattle.std.specs.List.{find, list_all}
+use Rattle.std.proofs.Common.{◌≡◌, ℕ, ◌+◌, ◌^◌, ◌<◌, ◌==◌, ◌||◌, ◌∷◌, ◌++◌, Bool, true, false, List, [], length, Option, Some, None, option_map, refl, sym, ap, ◌∙◌, subst, arith}
+use Rattle.std.specs.List.{find}
 use Rattle.std.proofs.lemmas.Bool.{cond-true, eq-eqb, eqb-true}
 use Rattle.ph_attempts.specs.Attempts.{after, first_parked, has_parked, is_parked_under, parked_in}
 use Rattle.ph_attempts.specs.Attempts as step
@@ -19,7 +19,6 @@ use Rattle.ph_doings.specs.Standings.{is_parked, standing_of}
 use Rattle.ph_doings.proofs.Counted.{runs_are_counted}
 use Rattle.ph_doings.proofs.KeptLists.{attempts_are_unsettled}
 use Rattle.ph_doings.proofs.Queue.{AreQueued, first_parked_is_earliest, has_order, parked_order, queue}
-use Rattle.ph_facts.specs.Touches as touch
 use Rattle.ph_idem.specs.declared.key_record.KeyRecord.{KeyRecord}
 use Rattle.ph_items.specs.Items.{attempt_in}
 use Rattle.ph_items.specs.declared.attempts.Attempt.{Attempt as AttemptItem}
@@ -35,11 +34,11 @@ use Rattle.ph_book.specs.declared.acts.Entry.{Entry}
 use Rattle.ph_book.specs.Called.{IsResuming, is_attempt_parked, is_row_parked}
 use Rattle.ph_book.specs.Calls.{resumed_by, resumed_from, resumed_outcome}
 use Rattle.ph_book.specs.Entries.{IsWithinClock, TakesUp, resume_entry}
-use Rattle.ph_book.specs.History.{Effect, doings_of, effect_to, nothing, outcome_effect, outcome_rows, outcome_touch, past_of, resume_effect, rows_of, said_to, time_of, view_of}
+use Rattle.ph_book.specs.History.{Effect, doings_of, effect_to, nothing, outcome_effect, outcome_rows, outcome_touch, resume_effect, rows_of, said_to, time_of, view_of}
 use Rattle.ph_book.specs.Legal.{EndsOwn, deed_weight, is_full, saved_weight}
-use Rattle.ph_book.specs.Replies.{Silence, Waits}
-use Rattle.ph_book.specs.Runs.{if_own, own_run}
-use Rattle.ph_book.specs.State.{BookState, IsBook, is_saved_well, records_of}
+use Rattle.ph_book.specs.Replies.{Waits}
+use Rattle.ph_book.specs.Runs.{own_run}
+use Rattle.ph_book.specs.State.{BookState, IsBook, records_of}
 use Rattle.ph_book.specs.Tickets.{Holds}
 use Rattle.ph_book.proofs.EffectLemmas.{Stands, StandsParked, resumed_touch}
 use Rattle.ph_book.proofs.HistoryLemmas.{book_more, doings_grow, effect_is, may_come}

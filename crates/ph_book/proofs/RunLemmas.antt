@@ -8,7 +8,6 @@ use Rattle.ph_base.specs.declared.acquirer.Why.{Why}
 use Rattle.ph_attempts.specs.Attempts.{Step, is_same_run}
 use Rattle.ph_attempts.specs.Attempts as step
 use Rattle.ph_attempts.specs.declared.flights.Flight.{Flight}
-use Rattle.ph_http.specs.declared.message.Raw.{Raw}
 use Rattle.ph_items.specs.declared.intents.CaptureMethod.{CaptureMethod}
 use Rattle.ph_facts.specs.Keeps.{most_rows}
 use Rattle.ph_doings.specs.Doings.{Doing, Leaves, Puts, Edits, Begins, Resumes, Parks, Settles, doing_of}

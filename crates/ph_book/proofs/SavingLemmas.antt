@@ -1,14 +1,12 @@
 -- The records of keys after each kind of entry, and what an entry saves.
-use Rattle.std.proofs.Common.{◌≡◌, ℕ, suc, ◌+◌, ◌^◌, ◌<◌, ◌≤◌, ◌==◌, ◌&&◌, ◌++◌, ◌∷◌, not, nat_le, nat_lt, Bool, true, false, if◌then◌else◌, List, [], length, map, Option, Some, None, is_some, refl, sym, ap, ◌∙◌, subst, arith}
+use Rattle.std.proofs.Common.{◌≡◌, ℕ, suc, ◌+◌, ◌^◌, ◌<◌, ◌==◌, ◌&&◌, ◌++◌, ◌∷◌, nat_lt, Bool, true, false, if◌then◌else◌, List, [], length, map, Option, Some, None, is_some, refl, sym, ap, ◌∙◌, arith}
 use Rattle.std.specs.List.{find, list_all}
 use Rattle.std.proofs.lemmas.Bool.Decides.{nat_tests}
 use Rattle.std.proofs.lemmas.List.Sums.{fold-append}
-use Rattle.std.proofs.lemmas.Option.{none-some}
 use Rattle.ph_attempts.specs.Attempts.{Step}
 use Rattle.ph_attempts.specs.Attempts as step
 use Rattle.ph_attempts.specs.declared.flights.Flight.{Flight}
 use Rattle.ph_base.specs.declared.acquirer.Ruling.{Ruling}
-use Rattle.ph_base.specs.declared.acquirer.Why.{Why}
 use Rattle.ph_calls.specs.declared.call.Call.{Call}
 use Rattle.ph_calls.specs.declared.call.Call.TheVariants as call
 use Rattle.ph_doings.specs.Doings.{Doing, Leaves, Puts, Edits, Begins, Resumes, Parks, Settles}
@@ -22,9 +20,9 @@ use Rattle.ph_http.specs.declared.message.Reply.{Reply}
 use Rattle.ph_idem.specs.declared.asked.Asked.{Asked}
 use Rattle.ph_idem.specs.declared.key_record.KeyRecord.{KeyRecord}
 use Rattle.ph_idem.specs.declared.key_record.Saved.{Saved}
-use Rattle.ph_idem.specs.Kept.{Opening, has_key, is_like, kept_of, opening_of, openings, records_after}
+use Rattle.ph_idem.specs.Kept.{Opening, has_key, is_like, kept_of, opening_of, openings}
 use Rattle.ph_idem.specs.Laws.{saved_under, with_opened, with_settled}
-use Rattle.ph_idem.specs.Records.{is_attached, is_entry, is_newest, opened_record, taken_back, update_first, with_reference, with_result}
+use Rattle.ph_idem.specs.Records.{is_attached, is_entry, is_newest, opened_record, update_first, with_result}
 use Rattle.ph_idem.proofs.OpenLemmas.{AreOpened, are_opened}
 use Rattle.ph_items.specs.declared.intents.CaptureMethod.{CaptureMethod}
 use Rattle.ph_items.specs.declared.orders.Order.{Order}
@@ -40,13 +38,13 @@ use Rattle.ph_book.specs.declared.judged.Judged.TheVariants.{Refused, Accepted}
 use Rattle.ph_book.specs.Called.{asked_if, begun_records, kept_records, opening_weight, record_key, saved_records, saving_of, saving_weight}
 use Rattle.ph_book.specs.Called as called
 use Rattle.ph_book.specs.Calls.{Keys, Upshot, Rejects, Replays, Makes, Shows, Sets, by_found, called_at, carried, is_fresh, key_asked, opens, request_upshot}
-use Rattle.ph_book.specs.Entries.{call_entry, finish_entry, park_entry, resume_entry, tick_entry}
+use Rattle.ph_book.specs.Entries.{call_entry}
 use Rattle.ph_book.specs.History.{Effect, Happening, and_then, call_effect, asks_after, asks_to, effect_after, effect_to, happening_of, keys_after, past_of, reply_at, said_briefly, saids_after, saved_said, time_after, turn_of, turns_after}
 use Rattle.ph_book.specs.History as happened
 use Rattle.ph_book.specs.Keys.{asked_in, request_of}
 use Rattle.ph_book.specs.Legal.{IsAllowed, IsLegal, saved_weight}
-use Rattle.ph_book.specs.Replies.{Said, Replies, Waits, Silence}
-use Rattle.ph_book.specs.State.{is_reply_well, is_saved_well, is_status_well, records_of}
+use Rattle.ph_book.specs.Replies.{Said, Replies, Waits}
+use Rattle.ph_book.specs.State.{is_saved_well, is_status_well, records_of}
 use Rattle.ph_book.proofs.HistoryLemmas.{length_past}
 use Rattle.ph_book.proofs.KeyLawLemmas.{legal_turned, said_count, turn_count, turn_time}
 use Rattle.ph_book.proofs.RecordLemmas.{records_more}
@@ -194,7 +192,7 @@ reply_now setup past entry =
 -- a record is opened with the reply to its call
 replied_records : (reply : ℕ → Saved) (open_ : Bool) (asked : Option Asked) (place moment : ℕ) (given : Reply) (records : List KeyRecord)
     → reply place ≡ record { status = given.status; body = given.body }
-    → with_opened reply found.Replies (opened_if open_ asked place moment) records ≡ kept_records (called.opening_of (asked_if open_ asked) given) place moment records
+    → with_opened reply found.Replies (opened_if open_ asked place moment) records ≡ kept_records (called.saved_opening_of (asked_if open_ asked) given) place moment records
 replied_records reply true None place moment given records is = refl
 replied_records reply false None place moment given records is = refl
 replied_records reply true (Some asked) place moment given records is =
@@ -237,7 +235,7 @@ pub replied_kept : (setup : Setup) (history : List Entry) (caller : ℕ) (raw : 
     → IsAllowed setup (past_of setup history) (call_entry caller raw) → SettlesNone (step_of (effect_to setup history (call_entry caller raw)).doing)
     → (effect_to setup history (call_entry caller raw)).said ≡ Replies reply
     → records_of setup (history ++ call_entry caller raw ∷ [])
-    ≡ kept_records (called.opening_of (asked_if (effect_to setup history (call_entry caller raw)).saves (asks_to setup history (deed.Call raw))) reply)
+    ≡ kept_records (called.saved_opening_of (asked_if (effect_to setup history (call_entry caller raw)).saves (asks_to setup history (deed.Call raw))) reply)
     (length history + 1) (happened.time_of setup history) (records_of setup history)
 unfolding effect_to happened.time_of
 replied_kept setup history caller raw reply small legal allowed none said =
@@ -372,7 +370,7 @@ none_newest setup history place small legal is =
 
 -- what a call opens weighs what it saves
 pub opening_weighs : (open_ : Bool) (asks : Option Asked) (reply : Reply) → (asks ≡ None → open_ ≡ false)
-    → saved_weight open_ (Replies reply) ≡ opening_weight (called.opening_of (asked_if open_ asks) reply)
+    → saved_weight open_ (Replies reply) ≡ opening_weight (called.saved_opening_of (asked_if open_ asks) reply)
 opening_weighs true None reply only = let wrong : true ≡ false = only refl in absurd (cc)
 opening_weighs false None reply only = refl
 opening_weighs true (Some asked) reply only = omega arith
@@ -399,7 +397,7 @@ saving_weighs (Some kept) reply = omega arith
 -- ---- the statuses that are saved
 
 pub opened_well : (asked : Option Asked) (reply : Reply) (place moment : ℕ) (records : List KeyRecord) → is_status_well reply.status ≡ true
-    → list_all is_saved_well records ≡ true → list_all is_saved_well (kept_records (called.opening_of asked reply) place moment records) ≡ true
+    → list_all is_saved_well records ≡ true → list_all is_saved_well (kept_records (called.saved_opening_of asked reply) place moment records) ≡ true
 opened_well None reply place moment records well all = all
 opened_well (Some asked) reply place moment records well all = rw well all
 

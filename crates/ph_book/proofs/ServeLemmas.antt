@@ -1,9 +1,8 @@
 -- The records that a book keeps say what is known of keys.
-use Rattle.std.proofs.Common.{◌≡◌, ℕ, suc, ◌+◌, ◌^◌, ◌<◌, ◌⊎◌, Bool, true, false, List, [], ◌∷◌, length, Option, Some, None, refl, sym, ap, ◌∙◌, subst, inl, inr}
+use Rattle.std.proofs.Common.{◌≡◌, ℕ, ◌⊎◌, true, false, List, Option, Some, None, refl, sym, ap, ◌∙◌, subst, inl, inr}
 use Rattle.ph_base.specs.declared.acquirer.Ruling.{Ruling}
 use Rattle.ph_base.specs.declared.acquirer.Ruling.TheVariants as ruling
 use Rattle.ph_items.specs.declared.attempts.Attempt.{Attempt}
-use Rattle.ph_items.specs.declared.attempts.AttemptState.{AttemptState}
 use Rattle.ph_items.specs.declared.attempts.AttemptState.TheVariants as attempt_state
 use Rattle.ph_items.specs.declared.items.Item.{Item}
 use Rattle.ph_items.specs.declared.items.Item.TheVariants as item
@@ -21,10 +20,8 @@ use Rattle.ph_doings.specs.Rows.{StandsAs, state_shown}
 use Rattle.ph_doings.specs.Standings.{State, Standing, NotBegun, Stands as StandsAt, is_parked, standing_of}
 use Rattle.ph_doings.specs.Standings as attempt
 use Rattle.ph_doings.proofs.RowLemmas.{past_is_in_rows, rows_say_past}
-use Rattle.ph_idem.specs.declared.asked.Asked.{Asked}
 use Rattle.ph_idem.specs.declared.found.Found.{Found as IdemFound}
 use Rattle.ph_idem.specs.declared.key_record.KeyRecord.{KeyRecord}
-use Rattle.ph_idem.specs.declared.key_record.Saved.{Saved}
 use Rattle.ph_idem.specs.Kept.{has_key, is_like, records_after}
 use Rattle.ph_idem.specs.Laws.{FindsAs}
 use Rattle.ph_idem.specs.Records.{found_in}

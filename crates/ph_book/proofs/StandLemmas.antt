@@ -1,5 +1,5 @@
 -- Every legal history stands: its rows are sound, and show what was done, each of which might come where it stands.
-use Rattle.std.proofs.Common.{◌≡◌, ℕ, suc, ◌+◌, ◌*◌, ◌^◌, ◌≤◌, ◌<◌, ◌∷◌, ◌++◌, Bool, true, false, ◌||◌, nat_lt, List, [], length, None, refl, sym, ap, ◌∙◌, subst, length-append, arith}
+use Rattle.std.proofs.Common.{◌≡◌, ℕ, suc, ◌+◌, ◌*◌, ◌^◌, ◌≤◌, ◌<◌, ◌∷◌, ◌++◌, Bool, true, false, ◌||◌, nat_lt, List, [], length, refl, sym, ap, ◌∙◌, subst, length-append, arith}
 use Rattle.std.specs.List.{fold}
 use Rattle.std.proofs.lemmas.Bool.Decides.{nat_tests}
 use Rattle.ph_http.specs.declared.message.Raw.{Raw}

@@ -1,11 +1,9 @@
 -- The step of an attempt that a call makes, or the act that takes one up again, by what is said to it.
-use Rattle.std.proofs.Common.{◌≡◌, ℕ, suc, ◌+◌, ◌^◌, ◌<◌, ◌==◌, ◌⊎◌, cond, Bool, true, false, List, [], ◌∷◌, length, Option, Some, None, refl, sym, ap, ◌∙◌, subst, inl, inr}
+use Rattle.std.proofs.Common.{◌≡◌, ℕ, ◌+◌, ◌^◌, ◌<◌, ◌==◌, ◌⊎◌, cond, Bool, true, false, List, ◌∷◌, length, Option, Some, None, refl, sym, ap, subst, inl, inr}
 use Rattle.std.proofs.lemmas.Option.{none-some}
 use Rattle.ph_attempts.specs.Attempts.{Step}
 use Rattle.ph_attempts.specs.Attempts as step
 use Rattle.ph_attempts.specs.declared.flights.Flight.{Flight}
-use Rattle.ph_calls.specs.declared.call.Call.{Call}
-use Rattle.ph_calls.specs.Fit as calls
 use Rattle.ph_doings.specs.Doings.{Doing, doing_of}
 use Rattle.ph_doings.specs.Doings as doing
 use Rattle.ph_doings.specs.Kept.{step_of}
@@ -29,7 +27,7 @@ use Rattle.ph_book.specs.declared.judged.Judged.TheVariants.{Refused, Accepted}
 use Rattle.ph_book.specs.Called.{asked_if}
 use Rattle.ph_book.specs.Calls.{Keys, Upshot, Rejects, Replays, Makes, Shows, Sets, by_found, called_at, carried, is_fresh, key_asked, opens, request_upshot, resumed_outcome}
 use Rattle.ph_book.specs.Entries.{call_entry, resume_entry}
-use Rattle.ph_book.specs.History.{Effect, call_effect, asks_to, doings_after, doings_of, effect_after, effect_to, keys_after, outcome_effect, past_of, resume_effect, rows_after, rows_of, said_to, shown_or_waits, time_after, time_of, view_of}
+use Rattle.ph_book.specs.History.{Effect, call_effect, asks_to, doings_after, effect_after, effect_to, keys_after, outcome_effect, past_of, resume_effect, rows_after, said_to, shown_or_waits}
 use Rattle.ph_book.specs.Keys.{asked_in, request_of}
 use Rattle.ph_book.specs.Legal.{IsLegal}
 use Rattle.ph_book.specs.Replies.{Said, Replies, Waits, Silence}

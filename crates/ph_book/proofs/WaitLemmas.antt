@@ -1,5 +1,5 @@
 -- The key of the call that began an attempt is that of the record whose call waits for the ruling on it.
-use Rattle.std.proofs.Common.{◌≡◌, ℕ, suc, ◌+◌, ◌==◌, nat_le, Bool, true, false, if◌then◌else◌, List, [], ◌∷◌, ◌++◌, length, Option, Some, None, refl, sym, ap, ◌∙◌, arith}
+use Rattle.std.proofs.Common.{◌≡◌, ℕ, suc, ◌+◌, ◌==◌, nat_le, Bool, true, false, if◌then◌else◌, List, [], ◌∷◌, length, Option, Some, None, refl, sym, ap, ◌∙◌, arith}
 use Rattle.std.specs.List.{find}
 use Rattle.std.proofs.lemmas.Bool.Decides.{nat_tests}
 use Rattle.std.proofs.lemmas.Option.{none-some}
@@ -52,7 +52,7 @@ AreWaited opened (turn ∷ past) = WaitsIf (opening_of opened past turn.asked) t
 -- ---- an attempt that hasn't begun
 
 -- what hasn't begun after a doing hadn't before it, and the doing began another
-unbegun_by : (doing : Doing) (past : List Doing) (reference : ℕ) → standing_of (doing ∷ past) reference ≡ NotBegun
+pub unbegun_by : (doing : Doing) (past : List Doing) (reference : ℕ) → standing_of (doing ∷ past) reference ≡ NotBegun
     → (standing_of past reference ≡ NotBegun) × ((begun : ℕ) → begun_by doing ≡ Some begun → (reference == begun) ≡ false)
 unbegun_by Leaves past reference new = (new, λ begun is. absurd (none-some begun is))
 unbegun_by (Puts intent status) past reference new = (new, λ begun is. absurd (none-some begun is))

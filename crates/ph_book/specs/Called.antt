@@ -2,7 +2,6 @@
 use Rattle.std.specs.Prelude.{◌≡◌, ℕ, ◌+◌, Bool, true, false, if◌then◌else◌, List, [], ◌∷◌, length, Option, Result, Ok, Err, Some, None, IsSome, is_some}
 use Rattle.ph_errors.specs.declared.refusal.Refusal.{Refusal}
 use Rattle.ph_errors.specs.declared.refusal.Refusal.TheVariants as refusal
-use Rattle.ph_http.specs.declared.message.Raw.{Raw}
 use Rattle.ph_http.specs.declared.message.Reply.{Reply}
 use Rattle.ph_idem.specs.declared.asked.Asked.{Asked}
 use Rattle.ph_doings.specs.Records.{Found}
@@ -26,16 +25,16 @@ use Rattle.ph_book.specs.declared.calls.Carried.{Carried}
 use Rattle.ph_book.specs.declared.calls.Carried.TheVariants as carried
 use Rattle.ph_book.specs.declared.calls.Called.{Called}
 use Rattle.ph_book.specs.declared.calls.Called.TheVariants as made
-use Rattle.ph_book.specs.declared.calls.Opening.{Opening}
+use Rattle.ph_book.specs.declared.calls.SavedOpening.{SavedOpening}
 use Rattle.ph_book.specs.declared.endings.Saving.{Saving}
 use Rattle.ph_book.specs.Calls.{Keys, Upshot, Rejects, Replays, Makes, Shows, Sets, key_asked, resumed_outcome}
-use Rattle.ph_book.specs.Replies.{Said, Replies, Waits, Silence}
+use Rattle.ph_book.specs.Replies.{Replies, Waits}
 use Rattle.ph_book.specs.History.{Effect, outcome_effect}
 
 -- the record that a call opens to which this is replied, where it opens one of what it asks
-abbrev pub opening_of : Option Asked → Reply → Option Opening
-opening_of None reply = None
-opening_of (Some asked) reply = Some (record { asked = asked; saved = record { status = reply.status; body = reply.body } })
+abbrev pub saved_opening_of : Option Asked → Reply → Option SavedOpening
+saved_opening_of None reply = None
+saved_opening_of (Some asked) reply = Some (record { asked = asked; saved = record { status = reply.status; body = reply.body } })
 
 -- the key of a record
 abbrev pub record_key : Option KeyRecord → Option (List ℕ)
@@ -48,12 +47,12 @@ saving_of None reply = None
 saving_of (Some kept) reply = Some (record { entry = kept.entry; body = reply.body })
 
 -- what a record weighs that is opened with a reply
-abbrev pub opening_weight : Option Opening → ℕ
+abbrev pub opening_weight : Option SavedOpening → ℕ
 opening_weight None = 0
 opening_weight (Some opening) = length opening.saved.body
 
 -- the records with one that is opened with a reply, by the entry of a place at a moment
-abbrev pub kept_records : Option Opening → ℕ → ℕ → List KeyRecord → List KeyRecord
+abbrev pub kept_records : Option SavedOpening → ℕ → ℕ → List KeyRecord → List KeyRecord
 kept_records None entry at records = records
 kept_records (Some opening) entry at records = with_result opening.saved (opened_record opening.asked entry at) ∷ records
 
@@ -131,16 +130,16 @@ abbrev pub asked_if : Bool → Option Asked → Option Asked
 asked_if opens asked = if opens then asked else None
 
 -- a call that is answered opens this record or none, by what it asks under a key
-abbrev pub IsOpening : Option Asked → Effect → Option Opening → Type 0
-IsOpening asked effect opening = (reply : Reply) → effect.said ≡ Replies reply → opening ≡ opening_of (asked_if effect.saves asked) reply
+abbrev pub IsOpening : Option Asked → Effect → Option SavedOpening → Type 0
+IsOpening asked effect opening = (reply : Reply) → effect.said ≡ Replies reply → opening ≡ saved_opening_of (asked_if effect.saves asked) reply
 
 -- an effect is that of a call that is answered so, and opens a record of this or none
-pub record IsAnswered (opened : Option Asked) (effect : Effect) (reply : Reply) (made : List Row) (after : ℕ) (kept : Option Opening) : Type 0 where
+pub record IsAnswered (opened : Option Asked) (effect : Effect) (reply : Reply) (made : List Row) (after : ℕ) (kept : Option SavedOpening) : Type 0 where
   pub said : effect.said ≡ Replies reply
   pub saves : effect.saves ≡ is_some opened
   pub rows : effect.rows ≡ made
   pub now : effect.now ≡ after
-  pub opening : kept ≡ opening_of opened reply
+  pub opening : kept ≡ saved_opening_of opened reply
 
 -- an effect is that of a call that waits by itself: where it asks something under a key, it opens a record of that
 pub record IsWaiting (asks opened : Option Asked) (effect : Effect) (order : Order) (made : List Row) (after : ℕ) (kept : Option Asked) : Type 0 where

@@ -1,13 +1,15 @@
 -- What holds of the idempotency keys of every legal history.
-use Rattle.std.specs.Prelude.{◌≡◌, ℕ, ◌+◌, ◌<◌, ◌≤◌, true, List, [], ◌∷◌, ◌++◌, length, Some, None}
+use Rattle.std.specs.Prelude.{◌≡◌, ℕ, ◌+◌, ◌<◌, true, List, [], ◌∷◌, ◌++◌, length, Some, None}
 use Rattle.ph_doings.specs.Confirmations.{begun_by}
-use Rattle.ph_doings.specs.Records.{Fresh, Saved, Turn, a_day, result_of}
+use Rattle.ph_doings.specs.Laws.{IsFlown}
+use Rattle.ph_doings.specs.Records.{Fresh, Live, Saved, Turn, Waits, a_day, last_opened, result_of, said_at}
+use Rattle.ph_doings.specs.Records as found
 use Rattle.ph_idem.specs.declared.asked.Asked.{Asked}
 use Rattle.ph_idem.specs.Kept.{has_key, is_like}
 use Rattle.ph_book.specs.declared.setup.Setup.{Setup}
 use Rattle.ph_book.specs.declared.acts.Entry.{Entry}
 use Rattle.ph_book.specs.Calls.{Keys}
-use Rattle.ph_book.specs.History.{asks_to, effect_to, keys_after, past_of, time_of, turns_after}
+use Rattle.ph_book.specs.History.{asks_to, doings_of, effect_to, keys_after, past_of, time_of, turns_after}
 use Rattle.ph_book.specs.Legal.{IsLegal}
 
 -- what is known of keys after a history
@@ -49,3 +51,19 @@ KeyAddsNone setup = (before later : List Entry) (opener entry : Entry) (first as
     → IsLegal setup ((before ++ opener ∷ later) ++ entry ∷ []) → Opens setup before opener first → IsUnder asked first
     → asks_to setup (before ++ opener ∷ later) entry.deed ≡ Some asked → time_of setup (before ++ opener ∷ later) < time_of setup before + a_day
     → begun_by (effect_to setup (before ++ opener ∷ later) entry).doing ≡ None
+
+-- a call's key is in use: less than a day ago an entry opened its record with the same parameters; that waits for the ruling on an
+-- attempt, and a run of that attempt is live
+pub record IsInUse (setup : Setup) (history : List Entry) (asked : Asked) : Type 0 where
+  pub place : ℕ
+  pub moment : ℕ
+  pub reference : ℕ
+  pub opened : last_opened (has_key asked) (is_like asked) setup.opened (turns_of setup history) ≡ found.Opens place true moment
+  pub soon : time_of setup history < moment + a_day
+  pub waits : said_at (turns_of setup history) place ≡ Waits reference
+  pub run : IsFlown (doings_of setup history) reference
+
+-- a call finds what answers it with a conflict only while a run is live
+abbrev pub ConflictWhileARunLives : Setup → Type 0
+ConflictWhileARunLives setup = (history : List Entry) (asked : Asked) → IsLegal setup history
+    → (keys_of setup history).found asked ≡ Live → IsInUse setup history asked

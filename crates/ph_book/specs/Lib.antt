@@ -12,6 +12,7 @@ pub mod Hosts
 pub mod Spares
 pub mod Stores
 pub mod Called
+pub mod ComesTo
 pub mod State
 pub mod Laws
 pub mod KeyLaws

@@ -7,10 +7,10 @@ ghost use Rattle.ph_lock.specs.declared.object.Refused.{Refused};
 ghost use Rattle.ph_book.specs.declared.acts.Deed.TheVariants as deed;
 ghost use Rattle.ph_book.specs.State.{BookState, entered};
 ghost use Rattle.ph_book.specs.Answers.{HasStatus, IsAnswerTo, IsNoPark, Says, is_ruled, replies_in};
-ghost use Rattle.ph_book.specs.Called.{IsCalled, IsOpening, IsResuming, asked_if};
-ghost use Rattle.ph_book.specs.Calls.{key_asked};
+ghost use Rattle.ph_book.specs.Called.{IsOpening, asked_if};
+ghost use Rattle.ph_book.specs.ComesTo.{CallComesTo, TakesUpAttempt};
 ghost use Rattle.ph_book.specs.Entries.{IsGranted, IsWithinClock, TakesUp, call_entry, deed_of, entry_of, finish_entry, park_entry, resume_entry, tick_entry};
-ghost use Rattle.ph_book.specs.History.{asks_to, effect_to, nothing, opening_row, replies_of, rows_of, said_to, time_of};
+ghost use Rattle.ph_book.specs.History.{asks_to, effect_to, nothing, opening_row, replies_of, said_to, time_of};
 ghost use Rattle.ph_book.specs.Queries.{Sees};
 ghost use Rattle.ph_book.specs.Replies.{Replies, Silence, Waits, park_reply};
 ghost use Rattle.ph_book.specs.Hosts.{IsLawful};
@@ -19,7 +19,7 @@ ghost use Rattle.ph_book.specs.OwnRuns.{RunsAfter};
 ghost use Rattle.ph_book.specs.Tickets.{HandsOut, Holds, SpendsOwn};
 
 use crate::acts::{Act, Answer, Deed, Entry, Query};
-use crate::calls::{Called, Opening, called_by};
+use crate::calls::{Called, SavedOpening, called_by};
 use crate::endings::{Ending, Saving, parked_row, resumed_row, settled};
 use crate::keeping::{keep, open, save};
 use crate::room::{later, one_less, push_row, room_to_resume, take_room};
@@ -193,7 +193,7 @@ impl Book {
     fn enter_called(&mut self, caller: u64, raw: Raw, called: Called) -> Result<Answer, Raw>
         requires caller { caller < 2 ^ 62 }
         requires room { is_full self.old.setup self.old.history (deed.Call raw) ≡ false }
-        requires called { IsCalled (rows_of self.old.setup self.old.history) (time_of self.old.setup self.old.history) (length self.old.history + 1) caller (asks_to self.old.setup self.old.history (deed.Call raw)) (asked_if (effect_to self.old.setup self.old.history (call_entry caller raw)).saves (asks_to self.old.setup self.old.history (deed.Call raw))) (effect_to self.old.setup self.old.history (call_entry caller raw)) called }
+        requires called { CallComesTo self.old.setup self.old.history caller raw called }
         ensures entry { OnOk result (self.new ≡ entered self.old (call_entry caller raw)) }
         ensures answer { IfOk result (λ answer. Says (length self.old.history + 1) caller (said_to self.old.setup self.old.history (call_entry caller raw)) answer) }
         ensures live { IfOk result (λ answer. HandsOut self.new.setup self.new.history caller answer) }
@@ -201,12 +201,15 @@ impl Book {
     {
         self.lawful();
         match called {
-            Called::Answered(reply, rows, now, opening) => {
-                match self.enter(caller, raw, rows, now, opening) {
-                    Ok(()) => Ok(Answer::Reply(reply)),
-                    Err(raw) => Err(raw),
-                }
-            }
+            Called::Answered {
+                reply,
+                rows,
+                now,
+                opening,
+            } => match self.enter(caller, raw, rows, now, opening) {
+                Ok(()) => Ok(Answer::Reply(reply)),
+                Err(raw) => Err(raw),
+            },
             Called::Waiting(order, rows, asked) => {
                 match self.begin(caller, raw, order, rows, asked) {
                     Ok(ticket) => Ok(Answer::Wait(ticket)),
@@ -227,7 +230,7 @@ impl Book {
         raw: Raw,
         rows: Vec<Row>,
         now: u64,
-        opening: Option<Opening>,
+        opening: Option<SavedOpening>,
     ) -> Result<(), Raw>
         requires caller { caller < 2 ^ 62 }
         requires room { is_full self.old.setup self.old.history (deed.Call raw) ≡ false }
@@ -278,7 +281,8 @@ impl Book {
         requires room { is_full self.old.setup self.old.history (deed.Call raw) ≡ false }
         requires said { (effect_to self.old.setup self.old.history (call_entry caller raw)).said ≡ Waits order }
         requires rows { (effect_to self.old.setup self.old.history (call_entry caller raw)).rows ≡ rows.items }
-        requires step { step_of (effect_to self.old.setup self.old.history (call_entry caller raw)).doing ≡ Some (Begins (record { caller = caller; run = length self.old.history + 1; order = order })) }
+        requires step { step_of (effect_to self.old.setup self.old.history (call_entry caller raw)).doing
+            ≡ Some (Begins (record { caller = caller; run = length self.old.history + 1; order = order })) }
         requires now { (effect_to self.old.setup self.old.history (call_entry caller raw)).now ≡ time_of self.old.setup self.old.history }
         requires asked { asked ≡ asked_if (effect_to self.old.setup self.old.history (call_entry caller raw)).saves (asks_to self.old.setup self.old.history (deed.Call raw)) }
         ensures entry { OnOk result (self.new ≡ entered self.old (call_entry caller raw)) }
@@ -339,7 +343,7 @@ impl Book {
         requires caller { caller < 2 ^ 62 }
         requires kind { TakesUp deed }
         requires room { is_full self.old.setup self.old.history deed ≡ false }
-        requires taken { IsResuming (rows_of self.old.setup self.old.history) (time_of self.old.setup self.old.history) (length self.old.history + 1) caller (key_asked (asks_to self.old.setup self.old.history deed)) (effect_to self.old.setup self.old.history (record { caller = caller; deed = deed })) reference }
+        requires taken { TakesUpAttempt self.old.setup self.old.history caller deed reference }
         requires weight { weight ≡ weight_of self.old.setup self.old.history + deed_weight deed }
         ensures entry { OnOk result (self.new ≡ entered self.old (record { caller = caller; deed = deed })) }
         ensures answer { IfOk result (λ ticket. said_to self.old.setup self.old.history (record { caller = caller; deed = deed }) ≡ Waits ticket.order) }
@@ -372,7 +376,7 @@ impl Book {
     fn resume_by_call(&mut self, caller: u64, raw: Raw, reference: u64) -> Result<Ticket, Raw>
         requires caller { caller < 2 ^ 62 }
         requires room { is_full self.old.setup self.old.history (deed.Call raw) ≡ false }
-        requires taken { IsResuming (rows_of self.old.setup self.old.history) (time_of self.old.setup self.old.history) (length self.old.history + 1) caller (key_asked (asks_to self.old.setup self.old.history (deed.Call raw))) (effect_to self.old.setup self.old.history (call_entry caller raw)) reference }
+        requires taken { TakesUpAttempt self.old.setup self.old.history caller (deed.Call raw) reference }
         ensures entry { OnOk result (self.new ≡ entered self.old (call_entry caller raw)) }
         ensures answer { IfOk result (λ ticket. said_to self.old.setup self.old.history (call_entry caller raw) ≡ Waits ticket.order) }
         ensures ticket { IfOk result (λ ticket. ticket ≡ record { caller = caller; run = length self.old.history + 1; order = ticket.order }) }
@@ -399,7 +403,8 @@ impl Book {
         ensures entry { OnOk result (self.new ≡ entered self.old (resume_entry caller)) }
         ensures none { IfOk result (λ taken. IfNone taken (said_to self.old.setup self.old.history (resume_entry caller) ≡ Silence)) }
         ensures answer { IfOk result (λ taken. IfSome taken (λ ticket. said_to self.old.setup self.old.history (resume_entry caller) ≡ Waits ticket.order)) }
-        ensures ticket { IfOk result (λ taken. IfSome taken (λ ticket. ticket ≡ record { caller = caller; run = length self.old.history + 1; order = ticket.order })) }
+        ensures ticket { IfOk result (λ taken. IfSome taken (λ ticket. ticket
+            ≡ record { caller = caller; run = length self.old.history + 1; order = ticket.order })) }
         ensures live { IfOk result (λ taken. IfSome taken (λ ticket. Holds self.new.setup self.new.history caller ticket)) }
         ensures unchanged { OnErr result (self.new ≡ self.old) }
         ensures full { IfErr result (λ refused. (refused ≡ Refused.Full) ↔ IsTrue (is_full self.old.setup self.old.history deed.Resume)) }

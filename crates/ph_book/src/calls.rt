@@ -1,7 +1,7 @@
 //! What a call comes to.
-ghost use Rattle.std.specs.Prelude.{◌≡◌, ℕ, List, [], length, false, IfOk, IfSome, IsSome, None, Option, Some, is_some, option_copied};
+ghost use Rattle.std.specs.Prelude.{◌≡◌, ℕ, List, [], false, IfOk, IfSome, IsSome, None, Option, is_some, option_copied};
 ghost use Rattle.ph_rows.specs.declared.rows.Row.{Row};
-ghost use Rattle.ph_rows.specs.Batches.{BatchState, empty_batch, made_rows};
+ghost use Rattle.ph_rows.specs.Batches.{BatchState, made_rows};
 ghost use Rattle.ph_rows.specs.Names.{owned_named};
 ghost use Rattle.ph_facts.specs.Outcomes.{Gives, Outcome};
 ghost use Rattle.ph_idem.specs.declared.asked.Asked.{Asked};
@@ -10,9 +10,10 @@ ghost use Rattle.std.specs.Option.{option_or};
 ghost use Rattle.ph_intents.specs.Begun.{GivesBegun};
 ghost use Rattle.ph_intents.specs.Capture.{capture_outcome};
 ghost use Rattle.ph_book.specs.declared.setup.Setup.{Setup};
-ghost use Rattle.ph_book.specs.Calls.{Keys, Makes, Shows, and_opened, authenticated, carried, clock_set, created, key_asked, keyed_upshot, opens, payment_named, retrieved};
-ghost use Rattle.ph_book.specs.Called.{Comes, HaveReplies, IsCalled, ServeKeys, asked_if, opening_of};
-ghost use Rattle.ph_book.specs.History.{Effect, call_effect, request_effect};
+ghost use Rattle.ph_book.specs.Calls.{Keys, Makes, Shows, and_opened, authenticated, carried, clock_set, created, key_asked, payment_named, retrieved};
+ghost use Rattle.ph_book.specs.Called.{Comes, HaveReplies, IsCalled, ServeKeys, saved_opening_of};
+ghost use Rattle.ph_book.specs.ComesTo.{KeyedComesTo, OwnComesTo, RequestComesTo};
+ghost use Rattle.ph_book.specs.History.{Effect};
 ghost use Rattle.ph_book.specs.Keys.{asked_in, request_of};
 ghost use Rattle.ph_book.specs.Replies.{Replies, Waits, doc_reply, error_reply, replayed_reply, shown_reply};
 
@@ -50,7 +51,7 @@ pub enum Carried {
 
 /// A record that a call opens, with the reply to it.
 #[derive(Drop, Debug)]
-pub struct Opening {
+pub struct SavedOpening {
     pub asked: Asked,
     pub saved: Saved,
 }
@@ -58,8 +59,15 @@ pub struct Opening {
 /// What a call comes to, with the rows that it makes.
 #[derive(Drop, Debug)]
 pub enum Called {
-    /// It is answered by this reply, leaves this time, and opens a record or none.
-    Answered(Reply, Vec<Row>, u64, Option<Opening>),
+    /// It is answered by this reply.
+    Answered {
+        reply: Reply,
+        rows: Vec<Row>,
+        /// The time that it leaves, in seconds since 1970.
+        now: u64,
+        /// The record that it opens, where it opens one.
+        opening: Option<SavedOpening>,
+    },
     /// It waits until the acquirer has ruled on this order, and opens a record of what it asks, or none.
     Waiting(Order, Vec<Row>, Option<Asked>),
     /// It takes the attempt of this reference up again.
@@ -237,11 +245,15 @@ fn carry(
 }
 
 // The record that a call opens to which this is replied, where it opens one.
-fn opened(alloc: Global, asked: Option<Asked>, reply: &Reply) -> Result<Option<Opening>, NoMemory>
-    ensures { IfOk result (λ opening. opening ≡ opening_of asked reply.now) }
+fn opened(
+    alloc: Global,
+    asked: Option<Asked>,
+    reply: &Reply,
+) -> Result<Option<SavedOpening>, NoMemory>
+    ensures { IfOk result (λ opening. opening ≡ saved_opening_of asked reply.now) }
 {
     match asked {
-        Some(asked) => Ok(Some(Opening {
+        Some(asked) => Ok(Some(SavedOpening {
             asked,
             saved: Saved {
                 status: reply.status,
@@ -270,14 +282,19 @@ fn shown(
     batch: Batch,
     asked: Option<Asked>,
 ) -> Result<Called, NoMemory>
-    ensures { (effect : Effect) (place caller : ℕ) → effect.said ≡ Replies (shown_reply store.now.time store.now.rows object batch) → effect.saves ≡ is_some asked
-        → effect.rows ≡ made_rows (key_asked asked) batch → effect.now ≡ store.now.time
+    ensures { (effect : Effect) (place caller : ℕ) → effect.said ≡ Replies (shown_reply store.now.time store.now.rows object batch)
+        → effect.saves ≡ is_some asked → effect.rows ≡ made_rows (key_asked asked) batch → effect.now ≡ store.now.time
         → IfOk result (λ called. IsCalled store.now.rows store.now.time place caller asked asked effect called) }
 {
     let reply = shown_reply(alloc, store, object, &batch)?;
     let rows = batch.into_rows(alloc, key_in(&asked))?;
     let opening = opened(alloc, asked, &reply)?;
-    Ok(Called::Answered(reply, rows, store.time(), opening))
+    Ok(Called::Answered {
+        reply,
+        rows,
+        now: store.time(),
+        opening,
+    })
 }
 
 // An accepted call, which waits for an order.
@@ -287,8 +304,8 @@ fn waiting(
     batch: Batch,
     asked: Option<Asked>,
 ) -> Result<Called, NoMemory>
-    ensures { (rows : List Row) (now place caller : ℕ) (effect : Effect) → effect.said ≡ Waits order → effect.saves ≡ is_some asked
-        → effect.rows ≡ made_rows (key_asked asked) batch → effect.now ≡ now
+    ensures { (rows : List Row) (now place caller : ℕ) (effect : Effect) → effect.said ≡ Waits order
+        → effect.saves ≡ is_some asked → effect.rows ≡ made_rows (key_asked asked) batch → effect.now ≡ now
         → IfOk result (λ called. IsCalled rows now place caller asked asked effect called) }
 {
     let rows = batch.into_rows(alloc, key_in(&asked))?;
@@ -297,12 +314,18 @@ fn waiting(
 
 // A call that shows a document, and leaves this time.
 fn answered(alloc: Global, doc: &Doc, now: u64, asked: Option<Asked>) -> Result<Called, NoMemory>
-    ensures { (rows : List Row) (time place caller : ℕ) (of : Option Asked) (effect : Effect) → effect.said ≡ Replies (doc_reply doc.now) → effect.saves ≡ is_some asked
-        → effect.rows ≡ [] → effect.now ≡ now → IfOk result (λ called. IsCalled rows time place caller of asked effect called) }
+    ensures { (rows : List Row) (time place caller : ℕ) (of : Option Asked) (effect : Effect) → effect.said ≡ Replies (doc_reply doc.now)
+        → effect.saves ≡ is_some asked → effect.rows ≡ [] → effect.now ≡ now
+        → IfOk result (λ called. IsCalled rows time place caller of asked effect called) }
 {
     let reply = doc_reply(alloc, doc)?;
     let opening = opened(alloc, asked, &reply)?;
-    Ok(Called::Answered(reply, Vec::new(alloc), now, opening))
+    Ok(Called::Answered {
+        reply,
+        rows: Vec::new(alloc),
+        now,
+        opening,
+    })
 }
 
 // A request that is refused, which leaves this time.
@@ -312,12 +335,18 @@ fn refused(
     now: u64,
     asked: Option<Asked>,
 ) -> Result<Called, NoMemory>
-    ensures { (rows : List Row) (time place caller : ℕ) (of : Option Asked) (effect : Effect) → effect.said ≡ Replies (error_reply error.now) → effect.saves ≡ is_some asked
-        → effect.rows ≡ [] → effect.now ≡ now → IfOk result (λ called. IsCalled rows time place caller of asked effect called) }
+    ensures { (rows : List Row) (time place caller : ℕ) (of : Option Asked) (effect : Effect) → effect.said ≡ Replies (error_reply error.now)
+        → effect.saves ≡ is_some asked → effect.rows ≡ [] → effect.now ≡ now
+        → IfOk result (λ called. IsCalled rows time place caller of asked effect called) }
 {
     let reply = error_reply(alloc, error, None)?;
     let opening = opened(alloc, asked, &reply)?;
-    Ok(Called::Answered(reply, Vec::new(alloc), now, opening))
+    Ok(Called::Answered {
+        reply,
+        rows: Vec::new(alloc),
+        now,
+        opening,
+    })
 }
 
 // What a call of an account comes to by itself as the entry of a place: it opens a record of what it asks, where it is
@@ -330,8 +359,7 @@ fn made(
     call: &Call,
     asked: Option<Asked>,
 ) -> Result<Called, NoMemory>
-    ensures { (caller : ℕ) → IfOk result (λ called. IsCalled store.now.rows store.now.time place caller asked asked
-        (call_effect (key_asked asked) (is_some asked) store.now.rows store.now.time place caller (carried store.now.rows account store.now.time call.now (empty_batch (length store.now.rows) store.now.time place))) called) }
+    ensures { (caller : ℕ) → IfOk result (λ called. OwnComesTo store.now.rows account store.now.time place caller call.now asked called) }
 {
     let mut batch = Batch::new(alloc, store.rows().len() as u64, store.time(), place);
     match carry(alloc, store, account, call, &mut batch) {
@@ -347,13 +375,20 @@ fn made(
 // A reply that was saved, given once more.
 fn replayed(alloc: Global, store: &Store, saved: Option<&Saved>) -> Result<Called, NoMemory>
     requires there { IsSome (option_copied saved) }
-    ensures { (rows : List Row) (time place caller : ℕ) (of : Option Asked) (effect : Effect) → IfSome (option_copied saved.entry) (λ reply. effect.said ≡ Replies (replayed_reply reply))
-        → effect.saves ≡ false → effect.rows ≡ [] → effect.now ≡ store.now.time → IfOk result (λ called. IsCalled rows time place caller of None effect called) }
+    ensures { (rows : List Row) (time place caller : ℕ) (of : Option Asked) (effect : Effect)
+        → IfSome (option_copied saved.entry) (λ reply. effect.said ≡ Replies (replayed_reply reply))
+        → effect.saves ≡ false → effect.rows ≡ [] → effect.now ≡ store.now.time
+        → IfOk result (λ called. IsCalled rows time place caller of None effect called) }
 {
     match saved {
         Some(saved) => {
             let reply = replayed_reply(alloc, saved)?;
-            Ok(Called::Answered(reply, Vec::new(alloc), store.time(), None))
+            Ok(Called::Answered {
+                reply,
+                rows: Vec::new(alloc),
+                now: store.time(),
+                opening: None,
+            })
         }
         None => unreachable!(),
     }
@@ -370,8 +405,8 @@ fn keyed(
     asked: Asked,
 ) -> Result<Called, NoMemory>
     requires replies { HaveReplies store.now.time records.now }
-    ensures { (keys : Keys) (caller : ℕ) → ServeKeys keys store.now.rows store.now.time records.now → IfOk result (λ called. IsCalled store.now.rows store.now.time place caller (Some asked) (asked_if (opens keys (Some asked)) (Some asked))
-        (call_effect (Some asked.key) (opens keys (Some asked)) store.now.rows store.now.time place caller (keyed_upshot keys store.now.rows (empty_batch (length store.now.rows) store.now.time place) (carried store.now.rows account store.now.time call.now (empty_batch (length store.now.rows) store.now.time place)) (Some asked))) called) }
+    ensures { (keys : Keys) (caller : ℕ) → ServeKeys keys store.now.rows store.now.time records.now
+        → IfOk result (λ called. KeyedComesTo keys store.now.rows account store.now.time place caller call.now asked called) }
 {
     let now = store.time();
     match records.find(asked.account, asked.key.as_slice(), &asked.shape, now) {
@@ -399,8 +434,8 @@ pub fn called_by(
     raw: &Raw,
 ) -> Result<Called, NoMemory>
     requires replies { HaveReplies store.now.time records.now }
-    ensures { (setup : Setup) (keys : Keys) (caller : ℕ) → setup.key ≡ key.now → ServeKeys keys store.now.rows store.now.time records.now → IfOk result (λ called. IsCalled store.now.rows store.now.time place caller (asked_in (request_of key.now store.now.rows raw.now)) (asked_if (opens keys (asked_in (request_of key.now store.now.rows raw.now))) (asked_in (request_of key.now store.now.rows raw.now)))
-        (request_effect setup keys store.now.rows store.now.time place caller raw.now (asked_in (request_of key.now store.now.rows raw.now))) called) }
+    ensures { (setup : Setup) (keys : Keys) (caller : ℕ) → setup.key ≡ key.now → ServeKeys keys store.now.rows store.now.time records.now
+        → IfOk result (λ called. RequestComesTo setup keys store.now.rows store.now.time place caller raw.now (asked_in (request_of key.now store.now.rows raw.now)) called) }
 {
     match judge(alloc, key, store, raw)? {
         Judged::Refused(error) => refused(alloc, &error, store.time(), None),

@@ -74,9 +74,11 @@ pub fn settled(
     attempt: u64,
     ruling: Ruling,
 ) -> Result<Ending, NoMemory>
-    ensures reply { IfOk result (λ made. made.reply ≡ ruling_reply store.now.time store.now.rows ruling (ruled_outcome store.now.rows store.now.time place attempt ruling)) }
+    ensures reply { IfOk result (λ made. made.reply
+        ≡ ruling_reply store.now.time store.now.rows ruling (ruled_outcome store.now.rows store.now.time place attempt ruling)) }
     ensures saving { IfOk result (λ made. made.saving ≡ saving_of (find (is_attached attempt) records.now) made.reply) }
-    ensures rows { IfOk result (λ made. made.rows.items ≡ outcome_rows (record_key (find (is_attached attempt) records.now)) (ruled_outcome store.now.rows store.now.time place attempt ruling)) }
+    ensures rows { IfOk result (λ made. made.rows.items
+        ≡ outcome_rows (record_key (find (is_attached attempt) records.now)) (ruled_outcome store.now.rows store.now.time place attempt ruling)) }
 {
     let mut batch = Batch::new(alloc, store.rows().len() as u64, store.time(), place);
     let object = settle(alloc, store, attempt, ruling, &mut batch)?;
@@ -117,7 +119,8 @@ pub fn parked_row(store: &Store, attempt: u64) -> Option<Row>
 
 /// The row by which the attempt of a number is live again, over the rows of a store. It takes no memory.
 pub fn resumed_row(store: &Store, attempt: u64) -> Option<Row>
-    ensures { (place : ℕ) → option_to_list result ≡ outcome_rows None (resumed_outcome store.now.rows attempt (empty_batch (length store.now.rows) store.now.time place)) }
+    ensures { (place : ℕ) → option_to_list result
+        ≡ outcome_rows None (resumed_outcome store.now.rows attempt (empty_batch (length store.now.rows) store.now.time place)) }
 {
     row_with(store, attempt, AttemptState::Live)
 }

@@ -100,7 +100,8 @@ fn asked(alloc: Global, account: u64, raw: &Raw, tree: Form, key: &Bytes) -> Res
 // What is asked under a key by a request of an account that was read from this form, or what is wrong with the key.
 fn under(alloc: Global, account: u64, raw: &Raw, tree: Form, key: &Bytes) -> Result<Asked, Refusal>
     ensures asked { (call : Call) → IfOk result (λ asked. spec.keyed_request account raw.now call tree (Some key.now) ≡ Accepted account call (Some asked)) }
-    ensures refused { (call : Call) → IfErr result (λ refusal. (error : ApiError) → refusal ≡ Api error → spec.keyed_request account raw.now call tree (Some key.now) ≡ Refused error) }
+    ensures refused { (call : Call) → IfErr result (λ refusal. (error : ApiError) → refusal ≡ Api error
+        → spec.keyed_request account raw.now call tree (Some key.now) ≡ Refused error) }
 {
     if 255 < key.as_slice().len() {
         return Err(Refusal::Api(ApiError::key_too_long(alloc)?));
@@ -115,7 +116,8 @@ fn under(alloc: Global, account: u64, raw: &Raw, tree: Form, key: &Bytes) -> Res
 // key.
 fn asks(alloc: Global, account: u64, raw: &Raw, tree: Form) -> Result<Option<Asked>, Refusal>
     ensures asked { (call : Call) → IfOk result (λ asked. spec.keyed_request account raw.now call tree (spec.key_of raw.now) ≡ Accepted account call asked) }
-    ensures refused { (call : Call) → IfErr result (λ refusal. (error : ApiError) → refusal ≡ Api error → spec.keyed_request account raw.now call tree (spec.key_of raw.now) ≡ Refused error) }
+    ensures refused { (call : Call) → IfErr result (λ refusal. (error : ApiError) → refusal ≡ Api error
+        → spec.keyed_request account raw.now call tree (spec.key_of raw.now) ≡ Refused error) }
 {
     match key_of(raw) {
         None => Ok(None),
@@ -132,8 +134,8 @@ fn keyed(
     call: Call,
     given: Result<Option<Asked>, Refusal>,
 ) -> Result<Judged, NoMemory>
-    ensures { (judged : Judged) → IfOk given (λ asked. judged ≡ Accepted account call asked) → IfErr given (λ refusal. (error : ApiError) → refusal ≡ Api error → judged ≡ Refused error)
-        → IfOk result (λ made. made ≡ judged) }
+    ensures { (judged : Judged) → IfOk given (λ asked. judged ≡ Accepted account call asked)
+        → IfErr given (λ refusal. (error : ApiError) → refusal ≡ Api error → judged ≡ Refused error) → IfOk result (λ made. made ≡ judged) }
 {
     match given {
         Ok(asked) => Ok(Judged::Accepted(account, call, asked)),

@@ -2,7 +2,7 @@
 ghost use Rattle.std.specs.Prelude.{◌≡◌, OnErr, OnOk};
 ghost use Rattle.ph_book.specs.Called.{begun_records, kept_records, saved_records};
 
-use crate::calls::Opening;
+use crate::calls::SavedOpening;
 use crate::endings::Saving;
 use ph_base::NoMemory;
 use ph_idem::{Asked, Records, Saved};
@@ -11,7 +11,7 @@ use ph_idem::{Asked, Records, Saved};
 /// opens one. Where there is no memory, nothing changes.
 pub fn keep(
     records: &mut Records,
-    opening: Option<Opening>,
+    opening: Option<SavedOpening>,
     entry: u64,
     at: u64,
 ) -> Result<(), NoMemory>
@@ -19,7 +19,7 @@ pub fn keep(
     ensures refused { OnErr result (records.new ≡ records.old) }
 {
     match opening {
-        Some(Opening { asked, saved }) => {
+        Some(SavedOpening { asked, saved }) => {
             let Saved { status, body } = saved;
             records.open(asked, entry, at)?;
             records.save(entry, status, body);

@@ -1,5 +1,5 @@
 //! What holds of the idempotency keys of every legal history.
-ghost use Rattle.ph_book.specs.KeyLaws.{KeyAddsNone, RepeatFinds, SavedStays};
+ghost use Rattle.ph_book.specs.KeyLaws.{ConflictWhileARunLives, KeyAddsNone, RepeatFinds, SavedStays};
 
 use crate::setup::{Setup, few_entries};
 
@@ -22,6 +22,14 @@ pub fn saved_stays(setup: &Setup)
 /// customer is charged once, however often the request is sent.
 pub fn key_adds_none(setup: &Setup)
     ensures { KeyAddsNone setup.now }
+{
+    few_entries(setup.entries);
+}
+
+/// A request is answered that its key is in use only while a run lives: the request that opened the record of the key
+/// waits for the ruling on an attempt, and a run of that attempt is live.
+pub fn conflict_while_a_run_lives(setup: &Setup)
+    ensures { ConflictWhileARunLives setup.now }
 {
     few_entries(setup.entries);
 }

@@ -6,7 +6,7 @@ ghost use Rattle.ph_book.specs.Legal.{is_full_at, length_if, raw_weight};
 ghost use Rattle.ph_book.specs.Called.{opening_weight, saving_weight};
 ghost use Rattle.ph_book.specs.declared.acts.Deed.TheVariants as deed;
 
-use crate::calls::Opening;
+use crate::calls::SavedOpening;
 use crate::endings::Saving;
 use crate::setup::Setup;
 use ph_base::Bytes;
@@ -85,7 +85,7 @@ pub fn weight_with_body(weight: u64, body: &Bytes, live: usize) -> Option<u64>
 }
 
 /// The same, where a record is opened with a reply or none is.
-pub fn weight_with_opening(weight: u64, opening: &Option<Opening>, live: usize) -> Option<u64>
+pub fn weight_with_opening(weight: u64, opening: &Option<SavedOpening>, live: usize) -> Option<u64>
     requires { weight + 256 * live < 2 ^ 64 }
     ensures { IfSome result (λ sum. (sum ≡ weight + opening_weight opening.now) × (sum + 256 * live < 2 ^ 64)) }
 {

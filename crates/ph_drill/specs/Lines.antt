@@ -10,19 +10,11 @@ abbrev pub Writes : SinkState → SinkState → List ℕ → Result ⊤ WriteFai
 Writes old new text (Ok done) = Takes old new text
 Writes old new text (Err why) = TakesFront old new text
 
--- a word and what comes behind it
-abbrev pub word_and : List ℕ → List ℕ → List ℕ
-word_and behind word = word ++ behind
-
 -- a line of a word and a number
 abbrev pub count_line : List ℕ → ℕ → List ℕ
-count_line word number = word_and (codes " ") word ++ word_and (codes "\n") (decimal number)
+count_line word number = word ++ codes " " ++ decimal number ++ codes "\n"
 
 -- the line of a balance: of which account, in which currency, and what is available and pending
 abbrev pub balance_line : List ℕ → List ℕ → ℤ → ℤ → List ℕ
 balance_line account code available pending =
-    word_and (codes " ") (codes "balance")
-    ++ word_and (codes " ") account
-    ++ word_and (codes " ") code
-    ++ word_and (codes " ") (signed_decimal available)
-    ++ word_and (codes "\n") (signed_decimal pending)
+    codes "balance " ++ account ++ codes " " ++ code ++ codes " " ++ signed_decimal available ++ codes " " ++ signed_decimal pending ++ codes "\n"

@@ -1,6 +1,6 @@
 //! Lines of words that a blank parts.
-ghost use Rattle.std.specs.Prelude.{◌≡◌};
-ghost use Rattle.ph_drill.specs.Lines.{Writes, balance_line, count_line, word_and};
+ghost use Rattle.std.specs.Prelude.{◌++◌};
+ghost use Rattle.ph_drill.specs.Lines.{Writes, balance_line, count_line};
 
 use itoa::{Buffer, Integer};
 use ph_io::{Sink, WriteFailed, write_all};
@@ -36,7 +36,7 @@ fn write_number<K: Sink, I: Integer>(
     number: I,
     behind: &[u8],
 ) -> Result<(), WriteFailed>
-    ensures { Writes (K.sink sink.old) (K.sink sink.new) (word_and behind.now (I.text number)) result }
+    ensures { Writes (K.sink sink.old) (K.sink sink.new) (I.text number ++ behind.now) result }
 {
     let mut digits = Buffer::new();
     write_word(sink, digits.format(number).as_bytes(), behind)
@@ -44,7 +44,7 @@ fn write_number<K: Sink, I: Integer>(
 
 // Writes a word and what comes behind it.
 fn write_word<K: Sink>(sink: &mut K, word: &[u8], behind: &[u8]) -> Result<(), WriteFailed>
-    ensures { Writes (K.sink sink.old) (K.sink sink.new) (word_and behind.now word.now) result }
+    ensures { Writes (K.sink sink.old) (K.sink sink.new) (word.now ++ behind.now) result }
 {
     write_all(sink, word)?;
     write_all(sink, behind)

@@ -1,4 +1,5 @@
 pub mod HostLemmas
+mod KeyLemmas
 pub mod PairLemmas
 pub mod PlanLemmas
 pub mod SendLemmas

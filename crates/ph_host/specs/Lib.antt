@@ -1,3 +1,5 @@
+pub mod KeyLaws
+pub mod Means
 pub mod Options
 pub mod Plans
 pub mod Runs

@@ -1,10 +1,12 @@
 -- The options of the command line, and the values that they take.
-use Rattle.std.specs.Prelude.{ℕ, Bool, true, false, ◌&&◌, ◌||◌, nat_le, bytes_eq, if◌then◌else◌, List, [], ◌∷◌, length, take, codes, Option, Some, None, is_some, is_none}
+use Rattle.std.specs.Prelude.{ℕ, Bool, true, false, ◌&&◌, nat_le, bytes_eq, if◌then◌else◌, List, [], ◌∷◌, length, take, codes, Option, Some, None, is_some, is_none, find}
 use Rattle.std.specs.List.{list_all}
 use Rattle.ph_base.specs.Numbers.{number_in}
 use Rattle.ph_items.specs.Clocks.{clock_limit}
 use Rattle.ph_host.specs.declared.commands.Command.{Command}
 use Rattle.ph_host.specs.declared.commands.Command.TheVariants.{Stdio, Serve}
+use Rattle.ph_host.specs.declared.option_names.OptionName.{OptionName}
+use Rattle.ph_host.specs.declared.option_names.OptionName.TheVariants.{Key, Clock, Patience, Port, Workers, Connections}
 
 -- a byte from `!` to `~`
 abbrev pub is_visible : ℕ → Bool
@@ -16,24 +18,6 @@ is_api_key value =
     nat_le 9 (length value) && nat_le (length value) 255 && bytes_eq (take 8 value) (codes "sk_test_")
     && list_all is_visible value
 
--- a moment, where a clock shows it
-abbrev pub if_shown : Option ℕ → Option ℕ
-if_shown None = None
-if_shown (Some moment) = if nat_le moment clock_limit then Some moment else None
-
--- the moment that a text is, in decimal seconds since 1970
-abbrev pub moment_in : List ℕ → Option ℕ
-moment_in value = if_shown (number_in value)
-
--- so many polls, where a patience grants as many
-abbrev pub if_granted : Option ℕ → Option ℕ
-if_granted None = None
-if_granted (Some polls) = if nat_le polls 1000000 then Some polls else None
-
--- the patience that a text is, in further polls of a drive
-abbrev pub patience_in : List ℕ → Option ℕ
-patience_in value = if_granted (number_in value)
-
 -- so many, where it lies between these two
 abbrev pub if_between : ℕ → ℕ → Option ℕ → Option ℕ
 if_between least most None = None
@@ -42,6 +26,14 @@ if_between least most (Some number) = if nat_le least number && nat_le number mo
 -- the number that a text is, in decimal, where it lies between these two
 abbrev pub number_between : ℕ → ℕ → List ℕ → Option ℕ
 number_between least most value = if_between least most (number_in value)
+
+-- the moment that a text is, in seconds since 1970, where a clock shows it
+abbrev pub moment_in : List ℕ → Option ℕ
+moment_in value = number_between 0 clock_limit value
+
+-- the patience that a text is, in further polls of a drive
+abbrev pub patience_in : List ℕ → Option ℕ
+patience_in value = number_between 0 1000000 value
 
 -- the port that a text is
 abbrev pub port_in : List ℕ → Option ℕ
@@ -55,38 +47,76 @@ workers_in value = number_between 1 16 value
 abbrev pub connections_in : List ℕ → Option ℕ
 connections_in value = number_between 1 1000000 value
 
--- the option, one that only a server has, takes the value
-unfoldable pub serve_takes : List ℕ → List ℕ → Bool
-serve_takes name value =
-    bytes_eq name (codes "--port") && is_some (port_in value)
-    || bytes_eq name (codes "--workers") && is_some (workers_in value)
-    || bytes_eq name (codes "--connections") && is_some (connections_in value)
+-- how the option is written
+abbrev pub word_of : OptionName → List ℕ
+word_of Key = codes "--key"
+word_of Clock = codes "--clock"
+word_of Patience = codes "--patience"
+word_of Port = codes "--port"
+word_of Workers = codes "--workers"
+word_of Connections = codes "--connections"
+
+-- every option
+abbrev pub all_names : List OptionName
+all_names = Key ∷ Clock ∷ Patience ∷ Port ∷ Workers ∷ Connections ∷ []
+
+-- the option that is written so
+unfoldable pub name_of : List ℕ → Option OptionName
+name_of word = find (λ name. bytes_eq word (word_of name)) all_names
+
+-- the option takes the value
+abbrev pub is_value : OptionName → List ℕ → Bool
+is_value Key value = is_api_key value
+is_value Clock value = is_some (moment_in value)
+is_value Patience value = is_some (patience_in value)
+is_value Port value = is_some (port_in value)
+is_value Workers value = is_some (workers_in value)
+is_value Connections value = is_some (connections_in value)
 
 -- the command is that of a server
 abbrev pub is_serve : Command → Bool
 is_serve Stdio = false
 is_serve Serve = true
 
--- the command has an option of this name, and it takes the value
-unfoldable pub takes : Command → List ℕ → List ℕ → Bool
-takes command name value =
-    bytes_eq name (codes "--key") && is_api_key value
-    || bytes_eq name (codes "--clock") && is_some (moment_in value)
-    || bytes_eq name (codes "--patience") && is_some (patience_in value)
-    || is_serve command && serve_takes name value
+-- the command has the option: those of a port are a server's
+abbrev pub has : Command → OptionName → Bool
+has command Key = true
+has command Clock = true
+has command Patience = true
+has command Port = is_serve command
+has command Workers = is_serve command
+has command Connections = is_serve command
 
--- the value that is given for the option of this name, where each option stands before its value
+-- the option, where the command has it
+abbrev pub if_had : Command → Option OptionName → Option OptionName
+if_had command None = None
+if_had command (Some name) = if has command name then Some name else None
+
+-- the command's option that is written so
+abbrev pub option_of : Command → List ℕ → Option OptionName
+option_of command word = if_had command (name_of word)
+
+-- it is an option, and takes the value
+abbrev pub is_value_of : Option OptionName → List ℕ → Bool
+is_value_of None value = false
+is_value_of (Some name) value = is_value name value
+
+-- the command has an option that is written so, and it takes the value
+abbrev pub takes : Command → List ℕ → List ℕ → Bool
+takes command word value = is_value_of (option_of command word) value
+
+-- the value that is given for the option that is written so, where each option stands before its value
 abbrev pub given : List ℕ → List (List ℕ) → Option (List ℕ)
-given name [] = None
-given name (other ∷ []) = None
-given name (other ∷ value ∷ words) = if bytes_eq other name then Some value else given name words
+given word [] = None
+given word (other ∷ []) = None
+given word (other ∷ value ∷ words) = if bytes_eq other word then Some value else given word words
 
--- the option of this name takes the value, and isn't given again among the words behind it
+-- the option that is written so takes the value, and isn't given again among the words behind it
 unfoldable pub is_option : Command → List ℕ → List ℕ → List (List ℕ) → Bool
-is_option command name value words = takes command name value && is_none (given name words)
+is_option command word value words = takes command word value && is_none (given word words)
 
 -- the words are options of the command, each before a value that it takes, and none is given twice
 abbrev pub are_options : Command → List (List ℕ) → Bool
 are_options command [] = true
-are_options command (name ∷ []) = false
-are_options command (name ∷ value ∷ words) = is_option command name value words && are_options command words
+are_options command (word ∷ []) = false
+are_options command (word ∷ value ∷ words) = is_option command word value words && are_options command words

@@ -5,24 +5,25 @@ use Rattle.ph_io.specs.Writes.{Takes, TakesFront}
 use Rattle.ph_host.specs.Options.{are_options, connections_in, patience_in, port_in, workers_in}
 use Rattle.ph_host.specs.Setups.{given_in}
 use Rattle.ph_host.specs.declared.commands.Command.TheVariants.{Stdio, Serve}
+use Rattle.ph_host.specs.declared.option_names.OptionName.TheVariants.{Connections, Patience, Port, Workers}
 use Rattle.ph_host.specs.declared.plans.Plan.{Plan}
 use Rattle.ph_host.specs.declared.plans.Plan.TheVariants.{Once, Host, Usage}
 
 -- how many further polls of a drive are granted: so many as the words say, or 1,000
 abbrev pub patience_of : List (List ℕ) → ℕ
-patience_of words = unwrap_or (option_and_then patience_in (given_in (codes "--patience") words)) 1000
+patience_of words = unwrap_or (option_and_then patience_in (given_in Patience words)) 1000
 
 -- the port that is listened on, which has no default
 abbrev pub port_of : List (List ℕ) → Option ℕ
-port_of words = option_and_then port_in (given_in (codes "--port") words)
+port_of words = option_and_then port_in (given_in Port words)
 
 -- how many workers a server has: so many as the words say, or 4
 abbrev pub workers_of : List (List ℕ) → ℕ
-workers_of words = unwrap_or (option_and_then workers_in (given_in (codes "--workers") words)) 4
+workers_of words = unwrap_or (option_and_then workers_in (given_in Workers words)) 4
 
 -- how many connections each worker serves: so many as the words say, or 1,000,000
 abbrev pub connections_of : List (List ℕ) → ℕ
-connections_of words = unwrap_or (option_and_then connections_in (given_in (codes "--connections") words)) 1000000
+connections_of words = unwrap_or (option_and_then connections_in (given_in Connections words)) 1000000
 
 -- the plan of a server, where a port is given
 abbrev pub host_plan : List (List ℕ) → Option ℕ → Plan

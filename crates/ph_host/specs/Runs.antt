@@ -5,13 +5,13 @@ use Rattle.ph_bank.specs.Links.{Link}
 use Rattle.ph_bank.specs.Patiences.{Granted}
 use Rattle.ph_book.specs.State.{BookState}
 use Rattle.ph_conn.specs.Fronts.{known_alone}
-use Rattle.ph_conn.specs.Means.{Means}
 use Rattle.ph_conn.specs.Session.{SoloSession}
 use Rattle.ph_conn.specs.declared.endings.Closed.{Closed}
 use Rattle.ph_conn.specs.declared.endings.Stop.{Stop}
 use Rattle.ph_conn.specs.declared.endings.Stop.TheVariants as stop
 use Rattle.ph_conn.specs.declared.endings.TalkError.{TalkError}
 use Rattle.ph_conn.specs.declared.endings.TalkError.TheVariants as fault
+use Rattle.ph_host.specs.Means.{means_of}
 use Rattle.ph_host.specs.Setups.{setup_of}
 
 -- how many requests the session of `stdio` serves
@@ -39,18 +39,14 @@ status_of (Err fault.KeepFault) = 6
 abbrev pub new_book : List (List ℕ) → BookState
 new_book words = record { setup = setup_of words; history = [] }
 
--- what that session begins with: the new book, and link and patience as they are
-abbrev pub new_means : List (List ℕ) → Link → Granted → Means
-new_means words link counts = record { known = known_alone (new_book words); link = link; counts = counts }
-
 -- one session was served from an empty history on, and its ending gives the status
 pub record Runs (words : List (List ℕ)) (status : ℕ) (link0 link1 : Link) (counts0 counts1 : Granted) (input0 input1 : SourceState) (output0 output1 : SinkState) : Type 0 where
   pub ending : Result Closed TalkError
   pub book : BookState
   pub status_is : status ≡ status_of ending
-  pub session : SoloSession ending session_limit (new_means words link0 counts0) (record { known = known_alone book; link = link1; counts = counts1 }) input0 input1 output0 output1
+  pub session : SoloSession ending session_limit (means_of (known_alone (new_book words)) link0 counts0) (means_of (known_alone book) link1 counts1) input0 input1 output0 output1
 
 -- the session that was served broke off at a request for which the book has no room
 pub record EndsFull (words : List (List ℕ)) (link0 link1 : Link) (counts0 counts1 : Granted) (input0 input1 : SourceState) (output0 output1 : SinkState) : Type 0 where
   pub book : BookState
-  pub session : SoloSession (Err fault.Full) session_limit (new_means words link0 counts0) (record { known = known_alone book; link = link1; counts = counts1 }) input0 input1 output0 output1
+  pub session : SoloSession (Err fault.Full) session_limit (means_of (known_alone (new_book words)) link0 counts0) (means_of (known_alone book) link1 counts1) input0 input1 output0 output1

@@ -14,6 +14,7 @@ use Rattle.ph_book.specs.declared.setup.Setup.{Setup}
 use Rattle.ph_book.specs.Callers.{caller_of}
 use Rattle.ph_book.specs.Hosts.{IsLawful}
 use Rattle.ph_conn.specs.Fronts.{Known, known_by}
+use Rattle.ph_host.specs.Means.{means_of}
 use Rattle.ph_host.specs.declared.workers.WorkerEnd.{WorkerEnd}
 use Rattle.ph_host.specs.declared.workers.WorkerEnd.TheVariants as worker
 use Rattle.ph_host.specs.Visits.{Served}
@@ -35,9 +36,7 @@ module _ {E Base : Type 0} where
       (link0 link1 : Link) (counts0 counts1 : Granted) (gate0 gate1 : GateState) : Type 0 where
     pub same : SamePass before after
     pub pass : IsPass by lawful after
-    pub served : Served connection_limit end
-        (record { known = known_by setup plain mark before; link = link0; counts = counts0 })
-        (record { known = known_by setup plain mark after; link = link1; counts = counts1 })
+    pub served : Served connection_limit end (means_of (known_by setup plain mark before) link0 counts0) (means_of (known_by setup plain mark after) link1 counts1)
         gate0 gate1
 
 -- what is known by a pass of a book's lock
@@ -52,10 +51,7 @@ known_at_first setup caller = record { setup = setup; caller = caller; front = [
 pub record WorksBy (setup : Setup) (shown : Shown Entry Setup) (end : WorkerEnd) (link0 link1 : Link) (counts0 counts1 : Granted) (gate0 gate1 : GateState) : Type 0 where
   pub base : shown.base ≡ setup
   pub pass : IsPass caller_of IsLawful shown
-  pub served : Served connection_limit end
-      (record { known = known_at_first setup shown.caller; link = link0; counts = counts0 })
-      (record { known = known_by_pass shown; link = link1; counts = counts1 })
-      gate0 gate1
+  pub served : Served connection_limit end (means_of (known_at_first setup shown.caller) link0 counts0) (means_of (known_by_pass shown) link1 counts1) gate0 gate1
 
 -- the status of workers that ended so: that of the first whose gate has not ended
 abbrev pub status_of_ends : List WorkerEnd → ℕ

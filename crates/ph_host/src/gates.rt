@@ -2,6 +2,7 @@
 ghost use Rattle.std.specs.Prelude.{◌≡◌};
 ghost use Rattle.ph_lock.specs.Passes.{IsPass, SamePass};
 ghost use Rattle.ph_conn.specs.Fronts.{known_by};
+ghost use Rattle.ph_host.specs.Means.{means_of};
 ghost use Rattle.ph_host.specs.Visits.{Served, counted_if, end_of, is_broken, stop_of};
 
 use crate::workers::WorkerEnd;
@@ -30,8 +31,8 @@ pub fn serve_gate<R: Wait, O: Hosted, G: Gate, A: Acquirer, P: Patience>(
     ensures same { SamePass pass.old pass.new }
     ensures pass { IsPass O.by O.lawful pass.new }
     ensures served { Served rules.now.limit result
-        (record { known = known_by O.setup O.plain O.mark pass.old; link = A.link link.old; counts = P.counts patience.old })
-        (record { known = known_by O.setup O.plain O.mark pass.new; link = A.link link.new; counts = P.counts patience.new })
+        (means_of (known_by O.setup O.plain O.mark pass.old) (A.link link.old) (P.counts patience.old))
+        (means_of (known_by O.setup O.plain O.mark pass.new) (A.link link.new) (P.counts patience.new))
         (G.gate gate.old) (G.gate gate.new) }
 {
     // It shows that the pass is one of its lock's, which is so too where no connection comes.

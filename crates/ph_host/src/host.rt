@@ -1,8 +1,10 @@
 //! The top call of a session over one source and one sink.
 ghost use Rattle.std.specs.Prelude.{◌≡◌, ℕ, false};
 ghost use Rattle.ph_base.specs.Counts.{Rose};
+ghost use Rattle.ph_host.specs.KeyLaws.{HoldKeyLaws};
 ghost use Rattle.ph_host.specs.Plans.{WritesUsage, is_once, plan_of};
 ghost use Rattle.ph_host.specs.Runs.{EndsFull, Runs, status_of};
+ghost use Rattle.ph_host.specs.Setups.{setup_of};
 
 use crate::planning::plan;
 use crate::plans::Plan;
@@ -57,6 +59,10 @@ pub fn run_once<S: Source, K: Sink, A: Acquirer, P: Patience>(
     // A full history is answered only where the book has no room for the request that is refused.
     ensures full { result ≡ 9 →
         EndsFull words.now (A.link link.old) (A.link link.new) (P.counts patience.old) (P.counts patience.new) (S.source input.old) (S.source input.new) (K.sink output.old) (K.sink output.new) }
+
+    // The laws of idempotency keys hold of every legal history of the words' setup, and so of the one that a session leaves: an equal
+    // request under the same key finds, for a day, what the first one came to, and begins no attempt.
+    ensures keys { HoldKeyLaws (setup_of words.now) }
 {
     match plan(words) {
         Plan::Host { .. } | Plan::Usage => usage(output),

@@ -6,6 +6,7 @@ mod commands;
 mod gates;
 mod host;
 mod misuses;
+mod option_names;
 mod options;
 mod planning;
 mod plans;

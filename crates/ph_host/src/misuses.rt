@@ -5,7 +5,8 @@ ghost use Rattle.ph_host.specs.Plans.{host_if, is_planned, plan_of, port_of};
 ghost use Rattle.ph_host.specs.declared.commands.Command.TheVariants.{Serve};
 
 use crate::commands::Command;
-use crate::options::{is_named, is_option, takes};
+use crate::option_names::OptionName;
+use crate::options::{is_option, option_of, takes};
 use crate::planning::port;
 use ph_base::Bytes;
 use std::fmt;
@@ -20,9 +21,9 @@ pub enum Misuse<'w> {
     /// The command has no option of this name.
     NoSuchOption(&'w [u8]),
     /// The option has no value behind it.
-    NoValue(&'w [u8]),
-    /// The option of this name doesn't take this value.
-    NotTaken(&'w [u8], &'w [u8]),
+    NoValue(OptionName),
+    /// The option doesn't take this value.
+    NotTaken(OptionName, &'w [u8]),
     /// The option is given twice.
     Twice(&'w [u8]),
     /// A server is given no port.
@@ -63,34 +64,32 @@ fn option_misuse(command: Command, words: &[Bytes]) -> Option<Misuse<'_>>
 {
     match words {
         [] => None,
-        [name] => Some(alone(command, name.as_slice())),
-        [name, value, behind @ ..] => {
-            if is_option(command, name.as_slice(), value.as_slice(), behind) {
+        [word] => Some(alone(command, word.as_slice())),
+        [word, value, behind @ ..] => {
+            if is_option(command, word.as_slice(), value.as_slice(), behind) {
                 option_misuse(command, behind)
-            } else if takes(command, name.as_slice(), value.as_slice()) {
-                Some(Misuse::Twice(name.as_slice()))
+            } else if takes(command, word.as_slice(), value.as_slice()) {
+                Some(Misuse::Twice(word.as_slice()))
             } else {
-                Some(not_taken(command, name.as_slice(), value.as_slice()))
+                Some(not_taken(command, word.as_slice(), value.as_slice()))
             }
         }
     }
 }
 
 // What is wrong with a last word that should have a value behind it.
-fn alone(command: Command, name: &[u8]) -> Misuse<'_> {
-    if is_named(command, name) {
-        Misuse::NoValue(name)
-    } else {
-        Misuse::NoSuchOption(name)
+fn alone(command: Command, word: &[u8]) -> Misuse<'_> {
+    match option_of(command, word) {
+        Some(name) => Misuse::NoValue(name),
+        None => Misuse::NoSuchOption(word),
     }
 }
 
 // Why an option doesn't take a value.
-fn not_taken<'w>(command: Command, name: &'w [u8], value: &'w [u8]) -> Misuse<'w> {
-    if is_named(command, name) {
-        Misuse::NotTaken(name, value)
-    } else {
-        Misuse::NoSuchOption(name)
+fn not_taken<'w>(command: Command, word: &'w [u8], value: &'w [u8]) -> Misuse<'w> {
+    match option_of(command, word) {
+        Some(name) => Misuse::NotTaken(name, value),
+        None => Misuse::NoSuchOption(word),
     }
 }
 
@@ -112,12 +111,12 @@ impl fmt::Display for Misuse<'_> {
                 write!(f, "payhost has no command `{}` today", text(word))
             }
             Misuse::NoSuchOption(name) => write!(f, "the command has no option `{}`", text(name)),
-            Misuse::NoValue(name) => write!(f, "no value stands behind `{}`", text(name)),
+            Misuse::NoValue(name) => write!(f, "no value stands behind `{}`", text(name.word())),
             Misuse::NotTaken(name, value) => write!(
                 f,
                 "{} takes {}, and not `{}`",
-                text(name),
-                taken(name),
+                text(name.word()),
+                taken(*name),
                 text(value)
             ),
             Misuse::Twice(name) => write!(f, "{} is given twice", text(name)),
@@ -134,15 +133,14 @@ fn text(word: &[u8]) -> &str {
     }
 }
 
-// What the option of this name takes.
-fn taken(name: &[u8]) -> &'static str {
+// What the option takes.
+fn taken(name: OptionName) -> &'static str {
     match name {
-        b"--key" => "9 to 255 visible ASCII characters that begin with sk_test_",
-        b"--clock" => "a moment in seconds since 1970, from 0 to 253402300799",
-        b"--patience" => "a number from 0 to 1000000",
-        b"--port" => "a number from 1 to 65535",
-        b"--workers" => "a number from 1 to 16",
-        b"--connections" => "a number from 1 to 1000000",
-        _ => "another value",
+        OptionName::Key => "9 to 255 visible ASCII characters that begin with sk_test_",
+        OptionName::Clock => "a moment in seconds since 1970, from 0 to 253402300799",
+        OptionName::Patience => "a number from 0 to 1000000",
+        OptionName::Port => "a number from 1 to 65535",
+        OptionName::Workers => "a number from 1 to 16",
+        OptionName::Connections => "a number from 1 to 1000000",
     }
 }

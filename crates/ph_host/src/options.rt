@@ -1,9 +1,10 @@
 //! The options of the command line.
 ghost use Rattle.std.specs.Prelude.{◌≡◌, ◌≤◌, IfSome, option_map};
 ghost use Rattle.std.specs.List.{list_all};
-ghost use Rattle.ph_host.specs.Options.{are_options, connections_in, given, is_api_key, is_option, is_serve, is_visible, moment_in, number_between, patience_in, port_in, serve_takes, takes, workers_in};
+ghost use Rattle.ph_host.specs.Options.{are_options, connections_in, given, is_api_key, is_option, is_value, is_visible, moment_in, number_between, option_of, patience_in, port_in, takes, workers_in};
 
 use crate::commands::Command;
+use crate::option_names::{OptionName, has};
 use ph_base::{Bytes, read_number};
 use ph_items::CLOCK_LIMIT;
 
@@ -26,26 +27,26 @@ pub fn are_options(command: Command, words: &[Bytes]) -> bool
     match words {
         [] => true,
         [_] => false,
-        [name, value, behind @ ..] => is_option(command, name.as_slice(), value.as_slice(), behind)
+        [word, value, behind @ ..] => is_option(command, word.as_slice(), value.as_slice(), behind)
             && are_options(command, behind),
     }
 }
 
-/// Whether the option of this name takes the value, and isn't given again among the words behind it.
+/// Whether the option that is written so takes the value, and isn't given again among the words behind it.
 #[tactic(auto, unfolding(crate::specs::Options::is_option))]
-pub fn is_option(command: Command, name: &[u8], value: &[u8], behind: &[Bytes]) -> bool
-    ensures { result ≡ is_option command name.now value.now behind.now }
+pub fn is_option(command: Command, word: &[u8], value: &[u8], behind: &[Bytes]) -> bool
+    ensures { result ≡ is_option command word.now value.now behind.now }
 {
-    takes(command, name, value) && given(name, behind).is_none()
+    takes(command, word, value) && given(word, behind).is_none()
 }
 
-/// The value that the words give for the option of this name, where each option stands before its value.
-pub fn given<'w>(name: &[u8], words: &'w [Bytes]) -> Option<&'w [u8]>
-    ensures { option_map (λ value. value.now) result ≡ given name.now words.now }
+/// The value that the words give for the option that is written so, where each option stands before its value.
+pub fn given<'w>(word: &[u8], words: &'w [Bytes]) -> Option<&'w [u8]>
+    ensures { option_map (λ value. value.now) result ≡ given word.now words.now }
 {
     let mut rest = words;
     while let [other, value, behind @ ..] = rest {
-        if other.as_slice() == name {
+        if other.as_slice() == word {
             return Some(value.as_slice());
         }
         rest = behind;
@@ -53,44 +54,38 @@ pub fn given<'w>(name: &[u8], words: &'w [Bytes]) -> Option<&'w [u8]>
     None
 }
 
-/// Whether the command has an option of this name that takes the value.
-#[tactic(auto, unfolding(crate::specs::Options::takes))]
-pub fn takes(command: Command, name: &[u8], value: &[u8]) -> bool
-    ensures { result ≡ takes command name.now value.now }
+/// Whether the command has an option that is written so, and it takes the value.
+pub fn takes(command: Command, word: &[u8], value: &[u8]) -> bool
+    ensures { result ≡ takes command word.now value.now }
 {
-    name == b"--key".as_slice() && is_api_key(value)
-        || name == b"--clock".as_slice() && moment_in(value).is_some()
-        || name == b"--patience".as_slice() && patience_in(value).is_some()
-        || is_serve(command) && serve_takes(name, value)
+    match option_of(command, word) {
+        Some(name) => is_value(name, value),
+        None => false,
+    }
 }
 
-/// Whether the command has an option of this name.
-pub fn is_named(command: Command, name: &[u8]) -> bool {
+/// The command's option that is written so.
+pub fn option_of(command: Command, word: &[u8]) -> Option<OptionName>
+    ensures { result ≡ option_of command word.now }
+{
+    match OptionName::read(word) {
+        Some(name) if has(command, name) => Some(name),
+        _ => None,
+    }
+}
+
+// Whether the option takes the value.
+fn is_value(name: OptionName, value: &[u8]) -> bool
+    ensures { result ≡ is_value name value.now }
+{
     match name {
-        b"--key" | b"--clock" | b"--patience" => true,
-        b"--port" | b"--workers" | b"--connections" => is_serve(command),
-        _ => false,
+        OptionName::Key => is_api_key(value),
+        OptionName::Clock => moment_in(value).is_some(),
+        OptionName::Patience => patience_in(value).is_some(),
+        OptionName::Port => port_in(value).is_some(),
+        OptionName::Workers => workers_in(value).is_some(),
+        OptionName::Connections => connections_in(value).is_some(),
     }
-}
-
-// Whether the command is that of a server.
-fn is_serve(command: Command) -> bool
-    ensures { result ≡ is_serve command }
-{
-    match command {
-        Command::Stdio => false,
-        Command::Serve => true,
-    }
-}
-
-// Whether an option that only a server has takes the value.
-#[tactic(auto, unfolding(crate::specs::Options::serve_takes))]
-fn serve_takes(name: &[u8], value: &[u8]) -> bool
-    ensures { result ≡ serve_takes name.now value.now }
-{
-    name == b"--port".as_slice() && port_in(value).is_some()
-        || name == b"--workers".as_slice() && workers_in(value).is_some()
-        || name == b"--connections".as_slice() && connections_in(value).is_some()
 }
 
 // Whether the value is an API key.
@@ -110,28 +105,19 @@ fn are_visible(value: &[u8]) -> bool
     value.iter().all(|b| b'!' <= *b && *b <= b'~')
 }
 
-/// The moment that a value is, in decimal seconds since 1970, where a clock shows it.
+/// The moment that a value is, in decimal seconds since 1970, from 0 to the last one that a clock shows.
 pub fn moment_in(value: &[u8]) -> Option<u64>
     ensures { result ≡ moment_in value.now }
 {
-    let moment = read_number(value)?;
-    if moment <= CLOCK_LIMIT {
-        Some(moment)
-    } else {
-        None
-    }
+    number_between(0, CLOCK_LIMIT, value)
 }
 
-/// The patience that a value is: how many further polls it grants, in decimal, at most 1,000,000.
+/// The patience that a value is: how many further polls it grants, in decimal, from 0 to 1,000,000.
 pub fn patience_in(value: &[u8]) -> Option<u32>
     ensures { result ≡ patience_in value.now }
 {
-    let polls = read_number(value)?;
-    if polls <= MOST_POLLS {
-        Some(polls as u32)
-    } else {
-        None
-    }
+    let polls = number_between(0, MOST_POLLS, value)?;
+    Some(polls as u32)
 }
 
 // The number that a value is, in decimal, where it lies between these two.

@@ -5,9 +5,10 @@ ghost use Rattle.ph_host.specs.Plans.{connections_of, host_if, host_plan, once_i
 ghost use Rattle.ph_host.specs.declared.commands.Command.TheVariants.{Stdio, Serve};
 
 use crate::commands::Command;
-use crate::options::{are_options, connections_in, given, patience_in, port_in, workers_in};
+use crate::option_names::OptionName;
+use crate::options::{are_options, connections_in, patience_in, port_in, workers_in};
 use crate::plans::Plan;
-use crate::setups::options;
+use crate::setups::given_in;
 use ph_base::Bytes;
 
 // How many further polls are granted where the words name none.
@@ -87,7 +88,7 @@ fn host_plan(words: &[Bytes]) -> Plan
 fn patience(words: &[Bytes]) -> u32
     ensures { result ≡ patience_of words.now }
 {
-    match given(b"--patience", options(words)) {
+    match given_in(OptionName::Patience, words) {
         Some(value) => patience_in(value).unwrap_or(POLLS),
         None => POLLS,
     }
@@ -97,7 +98,7 @@ fn patience(words: &[Bytes]) -> u32
 pub fn port(words: &[Bytes]) -> Option<u16>
     ensures { result ≡ port_of words.now }
 {
-    match given(b"--port", options(words)) {
+    match given_in(OptionName::Port, words) {
         Some(value) => port_in(value),
         None => None,
     }
@@ -107,7 +108,7 @@ pub fn port(words: &[Bytes]) -> Option<u16>
 fn workers(words: &[Bytes]) -> u8
     ensures { result ≡ workers_of words.now }
 {
-    match given(b"--workers", options(words)) {
+    match given_in(OptionName::Workers, words) {
         Some(value) => workers_in(value).unwrap_or(WORKERS),
         None => WORKERS,
     }
@@ -117,7 +118,7 @@ fn workers(words: &[Bytes]) -> u8
 fn connections(words: &[Bytes]) -> u32
     ensures { result ≡ connections_of words.now }
 {
-    match given(b"--connections", options(words)) {
+    match given_in(OptionName::Connections, words) {
         Some(value) => connections_in(value).unwrap_or(CONNECTIONS),
         None => CONNECTIONS,
     }

@@ -8,6 +8,7 @@ ghost use Rattle.ph_book.specs.Hosts.{IsLawful};
 ghost use Rattle.ph_book.specs.Legal.{IsLegal};
 ghost use Rattle.ph_conn.specs.Laws.{AuthorisedOnce, HoldLaws};
 ghost use Rattle.ph_drill.specs.Summary.{summary_of};
+ghost use Rattle.ph_host.specs.KeyLaws.{HoldKeyLaws};
 ghost use Rattle.ph_host.specs.Plans.{WritesUsage, is_host_of, plan_of};
 ghost use Rattle.ph_host.specs.Servers.{IsNewPass, ServedBy, Tells, WorksBy, status_of_ends};
 ghost use Rattle.ph_host.specs.Setups.{setup_of};
@@ -86,6 +87,10 @@ pub fn run_host<
     ensures laws { IfSome result.1 (λ book. IsLegal book.setup book.history × HoldLaws (doings_of book.setup book.history)) }
     ensures authorised_once { IfSome result.1 (λ book. All (λ worker. AuthorisedOnce (doings_of book.setup book.history) (A.link worker.link)) workers.new) }
 
+    // The laws of idempotency keys hold of every legal history of its setup, and so of its own: an equal request under the same key
+    // finds, for a day, what the first one came to, and begins no attempt.
+    ensures keys { IfSome result.1 (λ book. HoldKeyLaws book.setup) }
+
     // The summary of its history was written, and the status is that of the workers' ends; or a write of it failed.
     ensures summary { IfSome result.1 (λ book. Tells (map (λ worker. worker.end) workers.new) result.0 (summary_of book.setup book.history) (K.sink output.old) (K.sink output.new)) }
 {
@@ -123,6 +128,7 @@ fn host<
         × WorksBy book.setup shown new.end (A.link old.link) (A.link new.link) (P.counts old.patience) (P.counts new.patience) (G.gate old.gate) (G.gate new.gate))) workers.old workers.new) }
     ensures laws { IfSome result.1 (λ closed. IsLegal closed.setup closed.history × HoldLaws (doings_of closed.setup closed.history)) }
     ensures authorised_once { IfSome result.1 (λ closed. All (λ worker. AuthorisedOnce (doings_of closed.setup closed.history) (A.link worker.link)) workers.new) }
+    ensures keys { IfSome result.1 (λ closed. HoldKeyLaws closed.setup) }
     ensures summary { IfSome result.1 (λ closed. Tells (map (λ worker. worker.end) workers.new) result.0 (summary_of closed.setup closed.history) (K.sink output.old) (K.sink output.new)) }
 {
     let (lock, mut first) = match Lock::new(alloc, book) {

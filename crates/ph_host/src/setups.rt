@@ -1,9 +1,10 @@
 //! The setup that the words of the command line name.
-ghost use Rattle.std.specs.Prelude.{◌≡◌, ◌≤◌, IfOk, drop};
+ghost use Rattle.std.specs.Prelude.{◌≡◌, ◌≤◌, IfOk, drop, option_map};
 ghost use Rattle.ph_items.specs.Clocks.{clock_limit};
 ghost use Rattle.ph_host.specs.Runs.{new_book};
-ghost use Rattle.ph_host.specs.Setups.{key_of, opened_of};
+ghost use Rattle.ph_host.specs.Setups.{given_in, key_of, opened_of};
 
+use crate::option_names::OptionName;
 use crate::options::{given, moment_in};
 use ph_base::{Bytes, NoMemory};
 use ph_book::{Book, Setup};
@@ -41,11 +42,18 @@ pub fn options(words: &[Bytes]) -> &[Bytes]
     }
 }
 
+/// The value that the words give for the option, behind the command.
+pub fn given_in<'w>(name: OptionName, words: &'w [Bytes]) -> Option<&'w [u8]>
+    ensures { option_map (λ value. value.now) result ≡ given_in name words.now }
+{
+    given(name.word(), options(words))
+}
+
 // The API key.
 fn key(alloc: Global, words: &[Bytes]) -> Result<Bytes, NoMemory>
     ensures { IfOk result (λ key. key ≡ key_of words.now) }
 {
-    match given(b"--key", options(words)) {
+    match given_in(OptionName::Key, words) {
         Some(value) => Bytes::from_slice(alloc, value),
         None => Bytes::from_slice(alloc, b"sk_test_payhost"),
     }
@@ -56,7 +64,7 @@ fn opened(words: &[Bytes]) -> u64
     ensures value { result ≡ opened_of words.now }
     ensures shown { result ≤ clock_limit }
 {
-    match given(b"--clock", options(words)) {
+    match given_in(OptionName::Clock, words) {
         Some(value) => moment_in(value).unwrap_or(OPENED),
         None => OPENED,
     }

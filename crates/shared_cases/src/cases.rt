@@ -2,7 +2,7 @@
 ghost use Rattle.std.specs.Prelude.{◌≡◌, IfSome};
 
 use crate::inputs::{creates, get, keyed_payment, payment};
-use crate::meanwhile::Meanwhile;
+use crate::meanwhile::serve_meanwhile;
 use crate::shown::{asked, calls_in_order, count, history, session, written};
 use crate::worker::{Worker, connect, serve, serve_all};
 use ph_bank::{Cue, MemAcquirer};
@@ -131,20 +131,41 @@ fn parked<R: Wait>(rt: &R, alloc: Global, cues: &[Cue]) -> Outcome {
     run_two(rt, alloc, 1000, clients, "processing")
 }
 
-// Prints a client's session, and what its link was asked of.
-fn shown(alloc: Global, worker: &Worker<MemAcquirer>) -> Outcome {
-    let mut text = session(alloc, worker).ok()?;
-    let replayed = written(&worker.conn).contains("Idempotent-Replayed: true");
-    if replayed {
-        text.push_str("  replayed\n").ok()?;
+// Prints each client's session, and what its link was asked of.
+fn shown(alloc: Global, workers: &[Worker<MemAcquirer>]) -> Outcome {
+    let mut text = String::new(alloc);
+    for worker in workers {
+        text.push_str(session(alloc, worker).ok()?.as_str()).ok()?;
+        let replayed = written(&worker.conn).contains("Idempotent-Replayed: true");
+        if replayed {
+            text.push_str("  replayed\n").ok()?;
+        }
+        text.push_str(asked(alloc, &worker.link).ok()?.as_str())
+            .ok()?;
     }
-    text.push_str(asked(alloc, &worker.link).ok()?.as_str())
-        .ok()?;
     Some(text)
 }
 
+// A client that pays under a key, and whose acquirer goes by these cues.
+fn payer<R: Wait>(
+    rt: &R,
+    alloc: Global,
+    lock: &Lock<Book>,
+    first: &mut Pass<Book>,
+    cues: &[Cue],
+) -> Option<Worker<MemAcquirer>>
+    requires lock { first.old.lock ≡ lock.now }
+    ensures same { first.new ≡ first.old }
+    ensures of { IfSome result (λ worker. worker.pass.lock ≡ lock.now) }
+{
+    let request = keyed_payment(alloc, "order-7").ok()?;
+    let link = link(alloc, cues)?;
+    Some(connect(alloc, lock.split(rt, first), request, link))
+}
+
 // A client pays under a key. While its acquirer, which goes by these cues, is asked, a second client sends the same request;
-// when the first has its reply, a third sends it again, and a fourth asks for the payment intent that the first made.
+// when the first has its reply, a third sends it again, and a fourth, which has met what the first knew, asks for the payment
+// intent that this made.
 fn serve_keyed<R: Wait>(
     rt: &R,
     alloc: Global,
@@ -155,28 +176,18 @@ fn serve_keyed<R: Wait>(
     requires lock { first.old.lock ≡ lock.now }
     ensures same { first.new ≡ first.old }
 {
-    let request = keyed_payment(alloc, "order-7").ok()?;
-    let again = keyed_payment(alloc, "order-7").ok()?;
-    let later = keyed_payment(alloc, "order-7").ok()?;
+    let approves = [Cue::Decide(Ruling::Approved)];
+    let one = payer(rt, alloc, lock, first, cues)?;
+    let two = payer(rt, alloc, lock, first, &[])?;
+    let mut three = payer(rt, alloc, lock, first, &approves)?;
     let retrieve = get(alloc, "/v1/payment_intents/pi_0000000000000002").ok()?;
-    let two = connect(alloc, lock.split(rt, first), again, link(alloc, &[])?);
-    let meanwhile = Meanwhile::new(rt, alloc, lock, link(alloc, cues)?, two);
-    let mut one = connect(alloc, lock.split(rt, first), request, meanwhile);
-    let approves = link(alloc, &[Cue::Decide(Ruling::Approved)])?;
-    let mut three = connect(alloc, lock.split(rt, first), later, approves);
     let mut four = connect(alloc, lock.split(rt, first), retrieve, link(alloc, &[])?);
-    serve(rt, alloc, lock, &mut one);
+    let (mut one, two) = serve_meanwhile(rt, alloc, lock, one, two);
     serve(rt, alloc, lock, &mut three);
     let note = lock.note(&mut one.pass);
     lock.meet(&mut four.pass, note);
     serve(rt, alloc, lock, &mut four);
-    let mut text = session(alloc, &one).ok()?;
-    let (link, two) = one.link.into_parts();
-    text.push_str(asked(alloc, &link).ok()?.as_str()).ok()?;
-    for worker in &[two, three, four] {
-        text.push_str(shown(alloc, worker)?.as_str()).ok()?;
-    }
-    Some(text)
+    shown(alloc, &[one, two, three, four])
 }
 
 // Serves these clients over a new book, and prints the history behind their sessions.

@@ -15,7 +15,7 @@ use std::sync::Wait;
 /// A link that serves another client when it is asked, and then answers as a link in memory does: so the other session falls
 /// within the run that is asked for. The other client stays behind a lock of its own, and contracts see the link alone.
 #[derive(Drop)]
-pub struct Meanwhile<'a, R: Wait> {
+struct Meanwhile<'a, R: Wait> {
     rt: &'a R,
     alloc: Global,
     lock: &'a Lock<Book>,
@@ -34,42 +34,6 @@ impl<'a, R: Wait> Model for Meanwhile<'a, R> {
     ghost invariant = { λ m. m.other.pass.lock ≡ m.lock.now };
 }
 
-impl<'a, R: Wait> Meanwhile<'a, R> {
-    /// A link that answers as this one does, and on which this client is served.
-    pub fn new(
-        rt: &'a R,
-        alloc: Global,
-        lock: &'a Lock<Book>,
-        link: MemAcquirer,
-        other: Worker<MemAcquirer>,
-    ) -> Self
-        requires lock { other.pass.lock ≡ lock.now }
-        ensures { result ≡ link }
-    {
-        Meanwhile {
-            rt,
-            alloc,
-            lock,
-            link,
-            other,
-        }
-    }
-
-    /// The link that answers, and the client that was served.
-    pub fn into_parts(self) -> (MemAcquirer, Worker<MemAcquirer>)
-        ensures link { result.0 ≡ self }
-    {
-        let Meanwhile {
-            rt: _,
-            alloc: _,
-            lock: _,
-            link,
-            other,
-        } = self;
-        (link, other)
-    }
-}
-
 impl<'a, R: Wait> Acquirer for Meanwhile<'a, R> {
     ghost link = { λ m. script.link_of m };
 
@@ -79,4 +43,61 @@ impl<'a, R: Wait> Acquirer for Meanwhile<'a, R> {
         serve(self.rt, self.alloc, self.lock, &mut self.other);
         self.link.ask(order, turn)
     }
+}
+
+/// Serves a client, and another one while the first one's link is asked.
+pub fn serve_meanwhile<'a, R: Wait>(
+    rt: &'a R,
+    alloc: Global,
+    lock: &'a Lock<Book>,
+    worker: Worker<MemAcquirer>,
+    other: Worker<MemAcquirer>,
+) -> (Worker<MemAcquirer>, Worker<MemAcquirer>)
+    requires lock { (worker.pass.lock ≡ lock.now) × (other.pass.lock ≡ lock.now) }
+    ensures lock { result.0.pass.lock ≡ lock.now }
+{
+    let Worker {
+        pass,
+        conn,
+        link,
+        patience,
+        ended,
+    } = worker;
+    let link = Meanwhile {
+        rt,
+        alloc,
+        lock,
+        link,
+        other,
+    };
+    let mut worker = Worker {
+        pass,
+        conn,
+        link,
+        patience,
+        ended,
+    };
+    serve(rt, alloc, lock, &mut worker);
+    let Worker {
+        pass,
+        conn,
+        link,
+        patience,
+        ended,
+    } = worker;
+    let Meanwhile {
+        rt: _,
+        alloc: _,
+        lock: _,
+        link,
+        other,
+    } = link;
+    let worker = Worker {
+        pass,
+        conn,
+        link,
+        patience,
+        ended,
+    };
+    (worker, other)
 }

@@ -1,6 +1,5 @@
-use Rattle.std.proofs.Common.{◌≡◌, ℕ, List, Option, Some, None, false, refl, sym, ap, ◌∙◌}
+use Rattle.std.proofs.Common.{◌≡◌, Option, Some, None, false, refl, sym, ap, ◌∙◌}
 use Rattle.ph_idem.specs.declared.asked.Asked.{Asked}
-use Rattle.ph_book.specs.declared.judged.Judged.{Judged}
 use Rattle.ph_book.specs.declared.judged.Judged.TheVariants.{Refused, Accepted}
 use Rattle.ph_book.specs.Keys.{request_of}
 use Rattle.ph_book.specs.History.{replied_effect}

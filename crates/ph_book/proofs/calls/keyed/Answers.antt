@@ -1,13 +1,11 @@
-use Rattle.std.proofs.Common.{◌≡◌, ℕ, List, IfOk, IfSome, IsSome, Option, Some, None, false, length, is_some, refl, sym, ap, ◌∙◌, subst}
+use Rattle.std.proofs.Common.{◌≡◌, ℕ, List, IfOk, IfSome, Option, Some, false, length, is_some, refl, sym, ap, ◌∙◌, subst}
 use Rattle.ph_doings.specs.Records.{Found}
 use Rattle.ph_doings.specs.Records as found
-use Rattle.ph_idem.specs.declared.asked.Asked.{Asked}
 use Rattle.ph_idem.specs.declared.key_record.Saved.{Saved}
 use Rattle.ph_idem.specs.Records.{found_in}
 use Rattle.ph_errors.specs.declared.api_error.ApiError.{ApiError}
 use Rattle.ph_errors.specs.Table.{KeyDiffers, KeyInUse, error_of}
 use Rattle.ph_rows.specs.Batches.{empty_batch}
-use Rattle.ph_book.specs.declared.calls.Called.{Called}
 use Rattle.ph_book.specs.declared.calls.Called.TheVariants as made
 use Rattle.ph_book.specs.Calls.{Upshot, by_found, carried, is_fresh}
 use Rattle.ph_book.specs.Called.{IsCalled, asked_if}

@@ -1,4 +1,4 @@
-use Rattle.std.proofs.Common.{◌≡◌, ℕ, List, None, length, sym, ap, ◌∙◌}
+use Rattle.std.proofs.Common.{◌≡◌, ℕ, List, length, sym, ap, ◌∙◌}
 use Rattle.ph_rows.specs.Batches.{BatchState, empty_batch, made_rows}
 use Rattle.ph_rows.specs.declared.rows.Row.{Row}
 use Rattle.ph_intents.specs.Settle.{settle_outcome}

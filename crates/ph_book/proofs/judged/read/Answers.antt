@@ -1,6 +1,6 @@
 use Rattle.std.proofs.Common.{◌≡◌, IfOk, List, Result, sym, ap, ◌∙◌, subst}
 use Rattle.ph_calls.specs.declared.call.Call.{Call}
-use Rattle.ph_calls.specs.Reading.{form_of, reading_of}
+use Rattle.ph_calls.specs.Reading.{reading_of}
 use Rattle.ph_errors.specs.declared.api_error.ApiError.{ApiError}
 use Rattle.ph_form.specs.declared.fault.FormFault.{FormFault}
 use Rattle.ph_form.specs.declared.leaf.Leaf.{Leaf}

@@ -1,5 +1,6 @@
 use Rattle.ph_lock.specs.Passes.{IsPass, SamePass}
 use Rattle.ph_conn.specs.Fronts.{known_by}
+use Rattle.ph_host.specs.Means.{means_of}
 use Rattle.ph_host.proofs.VisitLemmas.{Serving}
 use Rattle.ph_host.proofs.gates.serve_gate.Given as goal
 
@@ -8,7 +9,7 @@ invariant-loop g l = record {
   same : SamePass l.fn.pass l.pass;
   pass : IsPass g.O.Object.by g.O.Object.lawful l.pass;
   serving : Serving l.rules.limit l.sessions l.broken
-      (record { known = known_by g.O.Hosted.setup g.O.Hosted.plain g.O.Hosted.mark l.fn.pass; link = g.A.Acquirer.link l.fn.link; counts = g.P.Patience.counts l.fn.patience })
-      (record { known = known_by g.O.Hosted.setup g.O.Hosted.plain g.O.Hosted.mark l.pass; link = g.A.Acquirer.link l.link; counts = g.P.Patience.counts l.patience })
+      (means_of (known_by g.O.Hosted.setup g.O.Hosted.plain g.O.Hosted.mark l.fn.pass) (g.A.Acquirer.link l.fn.link) (g.P.Patience.counts l.fn.patience))
+      (means_of (known_by g.O.Hosted.setup g.O.Hosted.plain g.O.Hosted.mark l.pass) (g.A.Acquirer.link l.link) (g.P.Patience.counts l.patience))
       (g.G.Gate.gate l.fn.gate) (g.G.Gate.gate l.gate);
 }

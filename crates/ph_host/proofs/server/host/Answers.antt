@@ -3,6 +3,7 @@ use Rattle.std.specs.Prelude.{IsSomeAnd}
 use Rattle.ph_host.specs.declared.workers.WorkerEnd.TheVariants as worker
 use Rattle.ph_conn.proofs.LawLemmas.{laws_hold}
 use Rattle.ph_host.proofs.HostLemmas.{not_idle, once_by, some_and, some_gives, some_if, worked}
+use Rattle.ph_host.proofs.KeyLemmas.{key_laws_hold}
 use Rattle.ph_host.proofs.PairLemmas.{all_after_zip, all_any, all_of_zip, zip_thrice}
 use Rattle.ph_host.proofs.server.host.Goals as goal
 
@@ -91,3 +92,9 @@ returns-in-Err-write_summary-clause-laws g c =
 pub returns-in-Err-write_summary-clause-authorised_once : goal.returns-in-Err-write_summary-clause-authorised_once
 returns-in-Err-write_summary-clause-authorised_once g c =
     all_any _ _ (λ w. once_by _ _ (g.A.Acquirer.link w.link) c.close-book.ensures.lawful)
+
+pub returns-in-Ok-write_summary-clause-keys : goal.returns-in-Ok-write_summary-clause-keys
+returns-in-Ok-write_summary-clause-keys g c = key_laws_hold _ c.close-book.ensures.lawful.few
+
+pub returns-in-Err-write_summary-clause-keys : goal.returns-in-Err-write_summary-clause-keys
+returns-in-Err-write_summary-clause-keys g c = key_laws_hold _ c.close-book.ensures.lawful.few

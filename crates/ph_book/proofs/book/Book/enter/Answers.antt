@@ -1,6 +1,5 @@
 use Rattle.std.proofs.Common.{refl, sym, ap, ◌∙◌, ◌++◌, ◌∷◌, ◌+◌, ◌≤◌, [], length, length-append, subst, arith}
 use Rattle.ph_rows.specs.Weights.{rows_weight}
-use Rattle.ph_book.specs.Called.{opening_weight}
 use Rattle.ph_book.specs.Entries.{call_entry}
 use Rattle.ph_book.specs.Legal.{raw_weight}
 use Rattle.ph_book.proofs.HistoryLemmas.{book_is}

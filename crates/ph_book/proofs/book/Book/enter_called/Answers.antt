@@ -1,4 +1,4 @@
-use Rattle.std.proofs.Common.{◌≡◌, ◌+◌, length, sym, ◌∙◌}
+use Rattle.std.proofs.Common.{◌+◌, length}
 use Rattle.ph_book.specs.declared.acts.Deed.TheVariants as deed
 use Rattle.ph_book.specs.Called.{asked_if}
 use Rattle.ph_book.specs.Entries.{call_entry}

@@ -1,4 +1,4 @@
-use Rattle.std.proofs.Common.{refl, sym, ap, ◌∙◌, ◌++◌, ◌∷◌, ◌+◌, [], length, length-append, arith}
+use Rattle.std.proofs.Common.{refl, sym, ap, ◌∙◌, ◌++◌, ◌∷◌, [], length, length-append, arith}
 use Rattle.std.proofs.lemmas.List.{append-nil}
 use Rattle.ph_book.specs.Entries.{resume_entry}
 use Rattle.ph_book.proofs.HistoryLemmas.{book_is}

@@ -1,4 +1,4 @@
-use Rattle.std.proofs.Common.{◌≡◌, ℕ, None, Some, List, refl, sym, ap, ◌∙◌, ◌++◌, ◌∷◌, ◌+◌, [], length, length-append, option_to_list, arith, subst}
+use Rattle.std.proofs.Common.{◌≡◌, ℕ, None, List, refl, sym, ap, ◌∙◌, ◌++◌, ◌∷◌, ◌+◌, [], length, length-append, option_to_list, arith, subst}
 use Rattle.ph_attempts.specs.declared.flights.Flight.{Flight}
 use Rattle.ph_attempts.specs.Attempts.{Resumes, after}
 use Rattle.ph_rows.specs.Batches.{empty_batch}
@@ -10,7 +10,7 @@ use Rattle.ph_book.specs.State.{BookState}
 use Rattle.ph_book.specs.Tickets.{Holds}
 use Rattle.ph_book.proofs.HistoryLemmas.{book_is}
 use Rattle.ph_book.proofs.KeepLemmas.{take_keeps, weight_here}
-use Rattle.ph_book.proofs.ResumeLemmas.{resumed_rows, take_book, take_held, take_said, taken_here, taken_kept}
+use Rattle.ph_book.proofs.ResumeLemmas.{take_book, take_held, take_said, taken_kept}
 use Rattle.ph_book.proofs.book.Book.take_up.Goals as goal
 
 pub resume-ticket-requires : goal.resume-ticket-requires
