@@ -7,7 +7,6 @@ use Rattle.ph_facts.specs.Outcomes.{Outcome, Refuses, Adds}
 use Rattle.ph_calls.specs.declared.call.CreateIntent.{CreateIntent}
 use Rattle.ph_calls.specs.declared.call.UpdateIntent.{UpdateIntent}
 use Rattle.ph_errors.specs.Table.{error_of, AmountTooSmall}
-use Rattle.ph_money.specs.Currencies.{terms_of}
 use Rattle.ph_rows.specs.declared.rows.Row.{Row}
 use Rattle.ph_items.specs.declared.event_kinds.EventKind.TheVariants as event
 use Rattle.ph_items.specs.declared.intents.Intent.{Intent}
@@ -37,7 +36,7 @@ use Rattle.ph_kinds.specs.Kept.{first_metadata, named_texts}
 use Rattle.ph_kinds.proofs.KeptLemmas.{first_kept}
 use Rattle.ph_intents.specs.Refusals.{invalid_value}
 use Rattle.ph_intents.specs.Statuses.{next_status}
-use Rattle.ph_intents.specs.Update.{led, most_keys, step_of, update_with, update_of, updated_intent, update_outcome}
+use Rattle.ph_intents.specs.Update.{is_too_small, led, most_keys, step_of, update_with, update_of, updated_intent, update_outcome}
 use Rattle.ph_intents.specs.Versions.{with_version, adds_told}
 use Rattle.ph_intents.specs.declared.statuses.Step.TheVariants as step
 use Rattle.ph_intents.proofs.EnterLemmas.{Waits, created_underway, created_enters, new_number, told_enters, version_enters}
@@ -238,7 +237,7 @@ update_keeps state entry account call ready texts =
         let many = invalid_value (codes "metadata") in
         let wrong = is_wrong_fee account intent.destination call.application_fee_amount intent.amount in
         let fee = invalid_value (codes "application_fee_amount") in
-        cond_both (nat_lt intent.amount (terms_of intent.currency).minimum) (Refuses (error_of AmountTooSmall))
+        cond_both (is_too_small intent) (Refuses (error_of AmountTooSmall))
         (cond wrong fee (cond keys many adds)) (KeepsRows state 1) (λ small. too_small)
         (λ enough. cond_both wrong fee (cond keys many adds) (KeepsRows state 1) (λ taken. wrong_value (codes "application_fee_amount"))
         (λ right. cond_both keys many adds (KeepsRows state 1) (λ above. wrong_value (codes "metadata"))

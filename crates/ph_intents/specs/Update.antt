@@ -51,11 +51,15 @@ most_keys = 50
 abbrev pub led : ℕ → IntentStatus → IntentStatus → Touch
 led object old new = if line_number old == line_number new then Edits object new else Puts object new
 
+-- the amount of a payment intent is below the minimum of its currency
+abbrev pub is_too_small : Intent → Bool
+is_too_small intent = nat_lt intent.amount (terms_of intent.currency).minimum
+
 -- a version that results from an update at a status, with an amount of at least the currency's minimum, a fee that is
 -- possible where one is named, and at most 50 keys
 abbrev pub update_with : ℕ → Option ℕ → BatchState → ℕ → IntentStatus → Intent → Outcome
 update_with account fee batch object old intent =
-    if nat_lt intent.amount (terms_of intent.currency).minimum then Refuses (error_of AmountTooSmall)
+    if is_too_small intent then Refuses (error_of AmountTooSmall)
     else if is_wrong_fee account intent.destination fee intent.amount then invalid_value (codes "application_fee_amount")
     else if nat_lt most_keys (length intent.metadata) then invalid_value (codes "metadata")
     else Adds (led object old intent.status) object (with_version account object intent batch)

@@ -1,7 +1,7 @@
 //! The update.
 ghost use Rattle.std.specs.Prelude.{◌≡◌, IfOk};
 ghost use Rattle.ph_facts.specs.Outcomes.{Gives};
-ghost use Rattle.ph_intents.specs.Update.{step_by, step_of, update_of, update_outcome, update_with, updated_intent};
+ghost use Rattle.ph_intents.specs.Update.{is_too_small, step_by, step_of, update_of, update_outcome, update_with, updated_intent};
 
 use crate::copies::{copy_method_or, copy_text_or};
 use crate::fees::is_wrong_fee;
@@ -87,6 +87,13 @@ fn updated_intent(
     })
 }
 
+// Whether the amount of a payment intent is below the minimum of its currency.
+fn is_too_small(intent: &Intent) -> bool
+    ensures { result ≡ is_too_small intent.now }
+{
+    intent.amount < intent.currency.minimum()
+}
+
 // Adds a version that results from an update.
 fn update_with(
     alloc: Global,
@@ -98,7 +105,7 @@ fn update_with(
 ) -> Result<u64, Refusal>
     ensures { (status : IntentStatus) → Gives (update_with account fee.now batch.old object status intent) batch.old result batch.new }
 {
-    if intent.amount < intent.currency.minimum() {
+    if is_too_small(&intent) {
         return Err(amount_too_small(alloc));
     }
     if is_wrong_fee(account, intent.destination, fee, intent.amount) {
