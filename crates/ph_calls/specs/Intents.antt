@@ -40,13 +40,21 @@ create_intent amount currency payment_method confirm capture_method description 
 abbrev pub is_fee_above : Option ℕ → ℕ → Bool
 is_fee_above fee amount = nat_lt amount (unwrap_or fee 0)
 
+-- the platform names an application fee without a destination
+abbrev pub is_fee_of_nobody : ℕ → CreateIntent → Bool
+is_fee_of_nobody account c = is_some c.application_fee_amount && account == platform && is_none c.destination
+
+-- a connected account names a destination
+abbrev pub is_passed_on : ℕ → CreateIntent → Bool
+is_passed_on account c = is_some c.destination && not (account == platform)
+
 -- the further checks of a create by an account that speak of an application fee and a destination: a fee above the amount;
 -- one of the platform without a destination; a destination of a connected account
 abbrev pub connect_checks : ℕ → CreateIntent → List (Bool × ApiError)
 connect_checks account c =
     (is_fee_above c.application_fee_amount c.amount, error_of (InvalidValue (codes "application_fee_amount"))) ∷
-    (is_some c.application_fee_amount && account == platform && is_none c.destination, error_of (InvalidValue (codes "application_fee_amount"))) ∷
-    (is_some c.destination && not (account == platform), error_of (InvalidValue (codes "transfer_data[destination]"))) ∷ []
+    (is_fee_of_nobody account c, error_of (InvalidValue (codes "application_fee_amount"))) ∷
+    (is_passed_on account c, error_of (InvalidValue (codes "transfer_data[destination]"))) ∷ []
 
 abbrev pub connect_error : ℕ → CreateIntent → Option ApiError
 connect_error account c = first_that_holds (connect_checks account c)

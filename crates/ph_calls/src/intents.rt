@@ -1,7 +1,7 @@
 //! The calls on payment intents, each of an id and a form.
 ghost use Rattle.std.specs.Prelude.{◌≡◌, IfErr, IfOk, Ok};
 ghost use Rattle.ph_calls.specs.Check.{Refuses};
-ghost use Rattle.ph_calls.specs.Intents.{authenticate_intent, cancel_intent, capture_intent, confirm_intent, connect_error, create_intent, create_intent_error, is_fee_above, update_intent};
+ghost use Rattle.ph_calls.specs.Intents.{authenticate_intent, cancel_intent, capture_intent, confirm_intent, connect_error, create_intent, create_intent_error, is_fee_above, is_fee_of_nobody, is_passed_on, update_intent};
 ghost use Rattle.ph_calls.specs.Parameters.{given};
 ghost use Rattle.ph_calls.specs.Table.{params_of};
 
@@ -54,6 +54,20 @@ pub fn is_fee_above(fee: Option<Amount>, amount: Amount) -> bool
     }
 }
 
+// Whether the platform names an application fee without a destination.
+fn is_fee_of_nobody(account: u64, call: &CreateIntent) -> bool
+    ensures { result ≡ is_fee_of_nobody account call.now }
+{
+    call.application_fee_amount.is_some() && account == PLATFORM && call.destination.is_none()
+}
+
+// Whether a connected account names a destination.
+fn is_passed_on(account: u64, call: &CreateIntent) -> bool
+    ensures { result ≡ is_passed_on account call.now }
+{
+    call.destination.is_some() && account != PLATFORM
+}
+
 // The error of the first of the further checks that fails which speak of an application fee and a destination.
 fn connect_error(
     alloc: Global,
@@ -62,14 +76,13 @@ fn connect_error(
 ) -> Result<Option<ApiError>, NoMemory>
     ensures { IfOk result (λ error. error ≡ connect_error account call.now) }
 {
-    let ours = account == PLATFORM;
     if is_fee_above(call.application_fee_amount, call.amount) {
         return Ok(Some(ApiError::invalid_value(alloc, FEE_NAME)?));
     }
-    if call.application_fee_amount.is_some() && ours && call.destination.is_none() {
+    if is_fee_of_nobody(account, call) {
         return Ok(Some(ApiError::invalid_value(alloc, FEE_NAME)?));
     }
-    if call.destination.is_some() && !ours {
+    if is_passed_on(account, call) {
         return Ok(Some(ApiError::invalid_value(alloc, DESTINATION_NAME)?));
     }
     Ok(None)
