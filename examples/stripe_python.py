@@ -1,5 +1,6 @@
-"""A checkout by Stripe's Python library against payhost: a declined card, a customer who authenticates, a manual capture, a
-refund, the balance, and retries under idempotency keys. Prints a line for each step, and ends with an error where an answer isn't the expected one.
+"""A checkout and a marketplace by Stripe's Python library against payhost: a declined card, a customer who authenticates, a manual
+capture, a refund, the balance, retries under idempotency keys; a charge with a destination, and one that a connected account makes.
+Prints a line for each step, and ends with an error where an answer isn't the expected one.
 
     /usr/bin/python3 examples/stripe_python.py http://127.0.0.1:12111
 """
@@ -79,6 +80,37 @@ expect("a slow acquirer, after two retries", (slow.status, slow.amount_received)
 # Both orders were charged once: 7.00 and 25.00, less 0.50 and 1.03.
 balance = stripe.Balance.retrieve()
 expect("the pending balance", balance.pending[0].amount, 3795 + 700 - 50 + 2500 - 103)
+
+# A marketplace: the platform takes 100.00 for a seller, who has it less the platform's 10.00.
+seller = stripe.Account.create(type="express", email="ada@example.com", capabilities={"transfers": {"requested": True}})
+sold = stripe.PaymentIntent.create(
+    amount=10000, currency="usd", payment_method="pm_card_visa", confirm=True,
+    transfer_data={"destination": seller.id}, application_fee_amount=1000,
+)
+charge = stripe.Charge.retrieve(sold.latest_charge)
+transfer = stripe.Transfer.retrieve(charge.transfer)
+expect("a charge with a destination", (transfer.amount, transfer.destination == seller.id), (10000, True))
+payment = stripe.Charge.retrieve(transfer.destination_payment, stripe_account=seller.id)
+expect("what the seller has of it", (payment.amount, payment.source_transfer == transfer.id), (10000, True))
+fee = stripe.ApplicationFee.retrieve(charge.application_fee)
+expect("what the platform has of it", (fee.amount, fee.account == seller.id), (1000, True))
+
+# The seller takes 40.00 alone, less a processing fee of 1.46 and the platform's 4.00; the platform doesn't see the charge.
+direct = stripe.PaymentIntent.create(
+    amount=4000, currency="usd", payment_method="pm_card_visa", confirm=True, application_fee_amount=400,
+    stripe_account=seller.id,
+)
+expect("a charge of the seller's own", direct.status, "succeeded")
+try:
+    stripe.Charge.retrieve(direct.latest_charge)
+    sys.exit("the platform sees a connected account's charge")
+except stripe.error.InvalidRequestError as error:
+    expect("the platform asks for it", error.http_status, 404)
+balance = stripe.Balance.retrieve(stripe_account=seller.id)
+expect("the seller's pending balance", balance.pending[0].amount, 10000 - 1000 + 4000 - 146 - 400)
+# The platform pays the 3.20 of the first one, and has the two fees.
+balance = stripe.Balance.retrieve()
+expect("the pending balance", balance.pending[0].amount, 6842 - 320 + 1000 + 400)
 
 # An error of another kind.
 try:

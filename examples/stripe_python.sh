@@ -1,6 +1,6 @@
 #!/bin/sh
-# A checkout with payhost by Stripe's own Python library, unchanged but for `stripe.api_base`. Wants Debian's python3-stripe;
-# where there is none it says so and ends with 0.
+# A checkout and a marketplace with payhost by Stripe's own Python library, unchanged but for `stripe.api_base`. Wants Debian's
+# python3-stripe; where there is none it says so and ends with 0.
 #
 #   examples/stripe_python.sh
 set -eu

@@ -1,5 +1,6 @@
 """The book: entries one after another, each answered by the entries before it, and the rows that they add."""
 
+import connect
 import disputes
 import forms
 import intents
@@ -13,9 +14,6 @@ from errors import Refusal, Reply
 MOST_ENTRIES = 200000
 MOST_WEIGHT = 536870912
 
-PLATFORM_ID = b"acct_0000000000000001"
-
-
 # call: what carries it out. Each answers the document of the reply, or that it waits for the acquirer, or refuses
 # before it adds a row.
 CALLS = {
@@ -26,12 +24,16 @@ CALLS = {
     "capture_intent": intents.capture,
     "cancel_intent": intents.cancel,
     "authenticate": intents.authenticate,
-    "get_charge": views.retrieve("charge"),
+    "get_charge": views.retrieve("charge", "payment"),
     "create_refund": refunds.create,
     "get_refund": views.retrieve("refund"),
     "get_dispute": views.retrieve("dispute"),
     "send_evidence": disputes.send_evidence,
     "close_dispute": disputes.close,
+    "create_account": connect.create_account,
+    "get_account": views.retrieve("account"),
+    "get_transfer": views.retrieve("transfer"),
+    "get_fee": views.retrieve("fee"),
     "get_balance": views.balance,
     "get_txn": views.retrieve("txn"),
 }
@@ -78,23 +80,22 @@ class Book:
         try:
             if request.auth != self.key:
                 raise Refusal("wrong_key")
-            if request.account not in (None, PLATFORM_ID):
-                raise Refusal("no_account")
-            call = parameters.read_call(request)
+            account = connect.account_named(self.rows, request.account)
+            call = parameters.read_call(request, account)
             key = keys.key_of(request)
         except Refusal as refusal:
             return refusal.reply()
         if key is None:
-            return self.own_answer(call, None)
+            return self.own_answer(account, call, None)
         shape = (request.method, request.path, forms.read(request.query, request.body))
-        return self.keyed(book_rows.PLATFORM, key, shape, call)
+        return self.keyed(account, key, shape, call)
 
     def keyed(self, account, key, shape, call):
         """A call under an idempotency key: by the latest record of the key."""
         record = self.records.latest(account, key, self.time)
         if record is None:
             record = self.records.open(account, key, shape, self.time)
-            answer = self.own_answer(call, key)
+            answer = self.own_answer(account, call, key)
             if isinstance(answer, intents.Waits):
                 record.attempt = answer.attempt
             else:
@@ -108,13 +109,13 @@ class Book:
             return self.take_up(record.attempt)
         return Refusal("key_in_use").reply()
 
-    def own_answer(self, call, key):
-        """What a call comes to by itself: its own refusals in their order, and what it adds."""
+    def own_answer(self, account, call, key):
+        """What a call of an account comes to by itself: its own refusals in their order, and what it adds."""
         name, identity, given = call
         try:
             if name == "set_clock":
                 return Reply(200, self.set_clock(given["now"]))
-            batch = self.batch(book_rows.PLATFORM, key)
+            batch = self.batch(account, key)
             answer = CALLS[name](batch, identity, given)
             batch.close()
         except Refusal as refusal:

@@ -39,6 +39,7 @@ TABLE = {
     "dispute_closed": (400, INVALID, None, "id", "The dispute is closed.", False),
     "refunded": (400, INVALID, "charge_already_refunded", None, "The charge has been refunded.", False),
     "disputed": (400, INVALID, "charge_disputed", None, "The charge is disputed.", False),
+    "platform_only": (400, INVALID, None, "Stripe-Account", "Not possible on a connected account.", False),
     "clock_backwards": (400, INVALID, "clock_backwards", "now", "The clock does not go back.", False),
     # the card and its acquirer
     "declined": (402, "card_error", "card_declined", None, "Your card was declined.", False),

@@ -39,7 +39,8 @@ METADATA = ["metadata[a]=1", "metadata[b]=2", "metadata[a]=", "metadata=", "meta
 STRANGE = ["foo=1", "expand[]=latest_charge", "expand=x", "submit=true", "return_url[a][b]=1", "off_session=x",
            "a[=1", "[a]=1", "a[b][c][d][e][f]=1", "amount=2000", "amount[]=1", "&&", "=", "currency[a]=usd", "a]=1",
            "b[]=1&b[0]=2"]
-PREFIXES = ["pi_", "pi_", "ch_", "ch_", "dp_", "re_", "txn_", "evt_", "acct_", "PI_"]
+PREFIXES = ["pi_", "pi_", "ch_", "ch_", "dp_", "re_", "txn_", "evt_", "acct_", "py_", "tr_", "fee_", "PI_"]
+FEES = ["0", "1", "100", "100", "500", "2000", "2001", "99999999"]
 
 
 class Session:
@@ -48,6 +49,7 @@ class Session:
     def __init__(self, chance):
         self.chance = chance
         self.seen = []
+        self.whose = None
         self.sent = []  # what was sent under a key, to be sent again
 
     def one(self, values):
@@ -89,7 +91,19 @@ class Session:
             (0.1, f"description={self.one(TEXTS)}"),
             (0.2, f"metadata[{self.one('abc')}]={self.one(TEXTS)}"),
             (0.1, f"transfer_group={self.one(TEXTS)}"),
-        ])
+        ] + self.split())
+
+    def split(self):
+        """What a create says of a marketplace: nothing, a destination, or an application fee alone, which is for a
+        connected account."""
+        made, fee = self.connected(), f"application_fee_amount={self.one(FEES[:5])}"
+        if not made or self.likely(0.3):
+            return [(0.03, fee), (0.03, f"transfer_data[destination]={self.identity('acct_')}")]
+        if self.likely(0.5):
+            self.whose = "acct_0000000000000001"
+            return [(0.7, fee), (0.97, f"transfer_data[destination]={self.one(made)}")]
+        self.whose = self.one(made)
+        return [(0.7, fee)]
 
     def create(self):
         return "POST", "/v1/payment_intents", self.form([
@@ -103,6 +117,15 @@ class Session:
             (0.2, self.one(METADATA)),
             (0.1, f"transfer_group={self.one(TEXTS)}"),
             (0.05, f"automatic_payment_methods[enabled]={self.one(TRUTHS)}"),
+            (0.1, f"application_fee_amount={self.one(FEES if self.likely(0.8) else AMOUNTS)}"),
+            (0.1, f"transfer_data[destination]={self.identity('acct_')}"),
+        ])
+
+    def account(self):
+        return "POST", "/v1/accounts", self.form([
+            (0.4, f"type={self.one(['standard', 'express', 'custom', 'Custom'])}"),
+            (0.3, f"email={self.one(TEXTS)}"),
+            (0.3, self.one(METADATA)),
         ])
 
     def update(self):
@@ -114,6 +137,7 @@ class Session:
             (0.5, self.one(METADATA)),
             (0.3, self.one(METADATA)),
             (0.2, f"transfer_group={self.one(TEXTS)}"),
+            (0.2, f"application_fee_amount={self.one(FEES if self.likely(0.8) else AMOUNTS)}"),
         ])
 
     def confirm(self):
@@ -124,6 +148,7 @@ class Session:
     def capture(self):
         return "POST", f"/v1/payment_intents/{self.identity('pi_')}/capture", self.form([
             (0.6, f"amount_to_capture={self.one(AMOUNTS)}"),
+            (0.3, f"application_fee_amount={self.one(FEES)}"),
         ])
 
     def cancel(self):
@@ -159,7 +184,8 @@ class Session:
 
     def get(self):
         kind, prefix = self.one([("payment_intents", "pi_"), ("charges", "ch_"), ("charges", "ch_"), ("refunds", "re_"),
-                                 ("disputes", "dp_"), ("balance_transactions", "txn_")])
+                                 ("disputes", "dp_"), ("balance_transactions", "txn_"), ("accounts", "acct_"),
+                                 ("charges", "py_"), ("transfers", "tr_"), ("application_fees", "fee_")])
         return "GET", f"/v1/{kind}/{self.identity(prefix)}", self.form([])
 
     def balance(self):
@@ -173,11 +199,13 @@ class Session:
     def call(self):
         """A method, a target and a form. Calls on objects of a kind come once one was seen, mostly."""
         calls = [(self.payment, "", 4), (self.create, "", 1), (self.balance, "", 1), (self.clock, "", 1),
+                 (self.account, "", 2),
                  (self.get, "pi_", 4), (self.update, "pi_", 2), (self.confirm, "pi_", 3), (self.capture, "pi_", 3),
                  (self.cancel, "pi_", 1), (self.authenticate, "pi_", 3), (self.refund, "ch_", 5),
                  (self.evidence, "dp_", 2), (self.close, "dp_", 1)]
         possible = [call for call, prefix, share in calls for _ in range(share)
                     if any(text.startswith(prefix) for text in self.seen) or self.likely(0.05) or prefix == ""]
+        self.whose = None
         method, target, form = self.one(possible)() if self.likely(0.98) else self.strange()
         if form and self.likely(0.1):
             return method, f"{target}?{form}", ""
@@ -187,13 +215,24 @@ class Session:
         """The lines of a request."""
         method, target, form = self.call()
         headers = ["key"] if self.likely(0.98) else [self.one(["", "Authorization: Bearer x", "Authorization: key"])]
-        headers += self.header()
+        headers += self.header() + [f"Stripe-Account: {account}" for account in self.owner()]
         if self.sent and self.likely(0.2):
             return self.one(self.sent)
         if self.likely(0.3):
             headers.append(f"Idempotency-Key: {self.one(['a', 'a', 'b'])}")
             self.sent.append([f"> {method} {target}"] + [line for line in headers if line] + ["", form])
         return [f"> {method} {target}"] + [line for line in headers if line] + ["", form]
+
+    def owner(self):
+        """The account that the call in the making is to be of, where one is to be named."""
+        made = self.connected()
+        if self.whose and self.likely(0.95):
+            return [self.whose]
+        return [self.one(made)] if made and self.likely(0.3) else []
+
+    def connected(self):
+        """The accounts that were made."""
+        return sorted({text for text in self.seen if text.startswith("acct_") and not text.endswith("001")})
 
     def header(self):
         if self.likely(0.85):
@@ -330,7 +369,8 @@ def history_case(chance):
         fields.append(f"entries {chance.randrange(1, 20)}")
     if chance.random() < 0.3:
         fields.append(f"weight {chance.randrange(256, 12000)}")
-    lines, waiting = [], 0
+    lines, waiting = ["POST /v1/accounts"] * chance.choice([0, 0, 1, 2]), 0
+    session.look(printed(cases.run_history, fields, lines))
     for _ in range(chance.randrange(1, MOST_STEPS + 1)):
         lines.append(history_step(chance, session, waiting))
         written = printed(cases.run_history, fields, lines)
@@ -349,10 +389,13 @@ def history_step(chance, session, waiting):
     if session.sent and chance.random() < 0.2:
         return chance.choice(session.sent)
     if chance.random() < 0.1:
-        return chance.choice(["resume", "resume", "resume", "entries", "balance 1 usd", "balance 1 jpy", "balance 2 usd", "tick 1700172800",
+        return chance.choice(["resume", "resume", "resume", "entries", "balance 1 usd", "balance 1 jpy", "balance 2 usd", "balance 3 eur",
+                              "tick 1700172800",
                               f"tick {chance.randrange(1700000000, 1700400000)}"])
     method, target, form = session.call()
     front = chance.choice([""] * 30 + ["as -: ", "as x: ", "account acct_0000000000000001: ", "account x: "])
+    for account in session.owner():
+        front = f"account {account}: "
     line = f"{method} {target if target.startswith('/') else '/'} {form.replace(' ', '+')}".rstrip()
     if chance.random() < 0.4:
         line = f"under {chance.choice(KEYS)}: {line}"

@@ -1,6 +1,7 @@
 """PaymentIntents: the calls on them, and what the acquirer's rulings make of them."""
 
 import acquirer
+import connect
 import disputes
 import money
 import parameters
@@ -47,6 +48,7 @@ def begin(batch, intent, method):
 def create(batch, _identity, given):
     method = given.get("payment_method")
     confirm = given.get("confirm", False)
+    to = connect.destination(batch, given)
     status = "requires_confirmation" if method else "requires_payment_method"
     intent = batch.add("intent", {
         "status": "processing" if confirm else status,
@@ -57,6 +59,8 @@ def create(batch, _identity, given):
         "reason": None,
         "error": None,
         "latest_charge": None,
+        "fee": given.get("application_fee_amount"),
+        "destination": to,
         "description": given.get("description"),
         "transfer_group": given.get("transfer_group"),
         "metadata": parameters.first_metadata(given),
@@ -73,11 +77,13 @@ def update(batch, identity, given):
     old = batch.item(intent)
     new = {name: given.get(name, old[name])
            for name in ("amount", "currency", "payment_method", "description", "transfer_group")}
+    new["fee"] = given.get("application_fee_amount", old["fee"])
     new["metadata"] = parameters.merged_metadata(old["metadata"], given)
     if "payment_method" in given:
         new["status"] = "requires_confirmation"
     if new["amount"] < money.minimum(new["currency"]):
         raise Refusal("too_small")
+    connect.check_fee(batch, intent, given, new["amount"])
     if len(new["metadata"]) > 50:
         raise Refusal("invalid", "metadata")
     batch.change(intent, **new)
@@ -118,12 +124,15 @@ def capture(batch, identity, given):
     amount = given.get("amount_to_capture", most)
     if amount == 0 or amount > most:
         raise Refusal("invalid", "amount_to_capture")
+    connect.check_fee(batch, intent, given, amount)
     charge = batch.item(intent)["latest_charge"]
-    batch.change(charge)
-    money.capture(batch, charge, amount)
-    batch.change(intent, status="succeeded")
+    fee = given.get("application_fee_amount", batch.item(intent)["fee"])
+    batch.change(charge, fee=given.get("application_fee_amount", batch.item(charge)["fee"]))
+    connect.split(batch, charge, amount)
+    batch.change(intent, status="succeeded", fee=fee)
     batch.announce("charge.captured", charge)
     batch.announce("payment_intent.succeeded", intent)
+    connect.tell_split(batch, charge)
     disputes.open_due(batch, charge)
     return views.document(batch, intent)
 
@@ -135,7 +144,7 @@ def charge_of(batch, intent, status):
     """The charge that an attempt comes to, with what the intent says now."""
     item = batch.item(intent)
     kept = {name: item[name] for name in ("amount", "currency", "payment_method", "description", "transfer_group",
-                                          "metadata")}
+                                          "metadata", "fee", "destination")}
     return batch.add("charge", {"status": status, "intent": intent, "dispute": None, **kept},
                      batch.account_of(intent))
 
@@ -164,10 +173,11 @@ def approve(batch, intent):
         batch.announce("charge.succeeded", charge)
         batch.announce("payment_intent.amount_capturable_updated", intent)
         return
-    money.capture(batch, charge, batch.item(charge)["amount"])
+    connect.split(batch, charge, batch.item(charge)["amount"])
     batch.change(intent, status="succeeded", latest_charge=charge)
     batch.announce("charge.succeeded", charge)
     batch.announce("payment_intent.succeeded", intent)
+    connect.tell_split(batch, charge)
     disputes.open_due(batch, charge)
 
 

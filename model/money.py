@@ -35,8 +35,8 @@ def txns(rows):
 
 
 def captures(rows, charge):
-    """The transactions that a charge was captured by: one, or none."""
-    return [row for row in txns(rows) if row.item["type"] == "charge" and row.item["source"] == charge]
+    """The transactions that a charge, or a payment, was captured by: one, or none."""
+    return [row for row in txns(rows) if row.item["type"] in ("charge", "payment") and row.item["source"] == charge]
 
 
 def capture_of(rows, charge):
@@ -83,17 +83,3 @@ def currencies_of(rows, account):
     """The currencies of an account's transactions, usd where there are none."""
     used = {row.item["currency"] for row in txns(rows) if row.account == account}
     return [currency for currency in CURRENCIES if currency in used] or ["usd"]
-
-
-def capture(batch, charge, amount):
-    """Adds the transaction that gives so much of a charge to the balance."""
-    item = batch.item(charge)
-    at_once = item["payment_method"] == "pm_card_bypassPending"
-    batch.add("txn", {
-        "type": "charge",
-        "amount": amount,
-        "currency": item["currency"],
-        "fee": fee(item["currency"], amount),
-        "available_on": batch.time if at_once else batch.time + TWO_DAYS,
-        "source": charge,
-    }, batch.account_of(charge))

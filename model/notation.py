@@ -3,6 +3,7 @@ field says something."""
 
 import re
 
+import connect
 import money
 import rows as book_rows
 
@@ -42,6 +43,8 @@ def intent(rows, number, item):
         + named("reason", item["reason"])
         + named("error", {"declined": "generic"}.get(item["error"], item["error"]))
         + named("charge", item["latest_charge"])
+        + named("fee", item["fee"])
+        + named("destination", item["destination"])
         + named("description", item["description"])
         + named("group", item["transfer_group"])
         + metadata(item)
@@ -62,7 +65,10 @@ def charge(rows, number, item):
         + amount("refunded", money.refunded(rows, number))
         + named("intent", item["intent"])
         + named("method", item["payment_method"])
-        + (named("txn", capture.object) + named("on", capture.item["available_on"]) if capture else "")
+        + named("fee", item["fee"])
+        + named("destination", item["destination"])
+        + (named("txn", capture.object) + named("moved", connect.transfer_of(rows, number))
+           + named("taken", connect.fee_of(rows, number)) + named("on", capture.item["available_on"]) if capture else "")
         + named("dispute", item["dispute"])
         + named("description", item["description"])
         + named("group", item["transfer_group"])
@@ -70,10 +76,31 @@ def charge(rows, number, item):
     )
 
 
+def payment(rows, number, item):
+    capture = money.capture_of(rows, number)
+    return (f"succeeded {item['amount']} {item['currency']}" + amount("captured", money.captured(rows, number))
+            + f" transfer={item['transfer']} txn={capture.object} on={capture.item['available_on']}")
+
+
+def transfer(rows, number, item):
+    return (f"{item['amount']} {item['currency']} destination={item['destination']}"
+            f" payment={connect.payment_of(rows, number)} charge={item['charge']} txn={txn_of(rows, number)}"
+            f" on={item['available_on']}" + named("group", item["transfer_group"]))
+
+
+def fee(rows, number, item):
+    return (f"{item['amount']} {item['currency']} from={item['account']} charge={item['charge']}"
+            f" txn={txn_of(rows, number)} on={item['available_on']}")
+
+
+def txn_of(rows, source):
+    """The transaction that comes from an object."""
+    return next(row.object for row in money.txns(rows) if row.item["source"] == source)
+
+
 def refund(rows, number, item):
     of = book_rows.latest(rows, item["charge"]).item
-    txn = next(row.object for row in money.txns(rows) if row.item["source"] == number)
-    return (f"{item['amount']} {of['currency']} charge={item['charge']} intent={of['intent']} txn={txn}"
+    return (f"{item['amount']} {of['currency']} charge={item['charge']} intent={of['intent']} txn={txn_of(rows, number)}"
             + named("reason", item["reason"]) + metadata(item))
 
 
@@ -93,11 +120,14 @@ def event(_rows, _number, item):
 
 
 VERSIONS = {"account": account, "intent": intent, "attempt": attempt, "charge": charge, "refund": refund,
-            "dispute": dispute, "txn": txn, "event": event}
+            "dispute": dispute, "payment": payment, "transfer": transfer, "fee": fee, "txn": txn, "event": event}
+
+# What stands as the kind: a payment is a charge.
+NAMES = {"payment": "charge"}
 
 
 def line(rows, row):
     """A row; `rows` are those up to the end of its entry."""
     owner = "" if row.account == book_rows.PLATFORM else f"account={row.account} "
     version = VERSIONS[row.kind](rows, row.object, row.item)
-    return f"{row.place} {row.object} {owner}{row.kind} {version}"
+    return f"{row.place} {row.object} {owner}{NAMES.get(row.kind, row.kind)} {version}"

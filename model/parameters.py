@@ -6,6 +6,7 @@ from collections import namedtuple
 import acquirer
 import forms
 import money
+import rows as book_rows
 from errors import Refusal
 
 CLOCK_LIMIT = 253402300799
@@ -130,21 +131,29 @@ def merged_metadata(old, given):
 # ---- Checks that stand behind all parameters of a call.
 
 
-def check_create(given):
+def check_create(given, account):
     if given["amount"] < money.minimum(given["currency"]):
         raise Refusal("too_small")
     if given.get("confirm") and "payment_method" not in given:
         raise Refusal("missing", "payment_method")
+    fee, of_platform = given.get("application_fee_amount"), account == book_rows.PLATFORM
+    to = given.get("transfer_data[destination]")
+    if fee is not None and fee > given["amount"]:
+        raise Refusal("invalid", "application_fee_amount")
+    if fee is not None and of_platform and to is None:
+        raise Refusal("invalid", "application_fee_amount")
+    if to is not None and not of_platform:
+        raise Refusal("invalid", "transfer_data[destination]")
 
 
-def check_refund(given):
+def check_refund(given, _account):
     if ("charge" in given) == ("payment_intent" in given):
         raise Refusal("missing", "charge")
     if given.get("amount") == 0:
         raise Refusal("invalid", "amount")
 
 
-def check_clock(given):
+def check_clock(given, _account):
     if given["now"] > CLOCK_LIMIT:
         raise Refusal("no_integer", "now")
 
@@ -174,6 +183,8 @@ CALLS = {
         may("capture_method", words("automatic", "automatic_async", "manual")),
         may("description", text(1000)),
         may("metadata", metadata),
+        may("application_fee_amount", amount),
+        may("transfer_data[destination]", identity),
         may("transfer_group", text(255)),
     ], ["automatic_payment_methods", "payment_method_types", "return_url", "receipt_email", "statement_descriptor",
         "statement_descriptor_suffix", "off_session", "use_stripe_sdk"], check_create),
@@ -184,12 +195,16 @@ CALLS = {
         may("payment_method", payment_method),
         may("description", text(1000)),
         may("metadata", metadata),
+        may("application_fee_amount", amount),
         may("transfer_group", text(255)),
     ], [], None),
     "confirm_intent": ("POST /v1/payment_intents/{id}/confirm", [
         may("payment_method", payment_method),
     ], ["return_url", "off_session", "use_stripe_sdk"], None),
-    "capture_intent": ("POST /v1/payment_intents/{id}/capture", [may("amount_to_capture", amount)], [], None),
+    "capture_intent": ("POST /v1/payment_intents/{id}/capture", [
+        may("amount_to_capture", amount),
+        may("application_fee_amount", amount),
+    ], [], None),
     "cancel_intent": ("POST /v1/payment_intents/{id}/cancel", [
         may("cancellation_reason", words("duplicate", "fraudulent", "requested_by_customer", "abandoned")),
     ], [], None),
@@ -207,6 +222,14 @@ CALLS = {
         must("evidence[uncategorized_text]", text(20000)),
     ], ["submit"], None),
     "close_dispute": ("POST /v1/disputes/{id}/close", [], [], None),
+    "create_account": ("POST /v1/accounts", [
+        may("type", words("standard", "express", "custom")),
+        may("email", text(255)),
+        may("metadata", metadata),
+    ], ["country", "capabilities", "business_type", "business_profile", "tos_acceptance", "controller", "settings"], None),
+    "get_account": ("GET /v1/accounts/{id}", [], [], None),
+    "get_transfer": ("GET /v1/transfers/{id}", [], [], None),
+    "get_fee": ("GET /v1/application_fees/{id}", [], [], None),
     "get_balance": ("GET /v1/balance", [], [], None),
     "get_txn": ("GET /v1/balance_transactions/{id}", [], [], None),
     "authenticate": ("POST /_host/payment_intents/{id}/authenticate", [
@@ -234,8 +257,8 @@ def route(method, path):
     raise Refusal("no_url")
 
 
-def read_call(request):
-    """The call that a request makes: its name, the id of its path, and the values of the parameters named."""
+def read_call(request, account):
+    """The call that a request of an account makes: its name, the id of its path, and the values of the parameters named."""
     name, identity_text = route(request.method, request.path)
     form = forms.read(request.query, request.body)
     _, row, ignored, further = CALLS[name]
@@ -251,5 +274,5 @@ def read_call(request):
         elif parameter.required:
             raise Refusal("missing", parameter.name)
     if further:
-        further(given)
+        further(given, account)
     return name, identity_text, given

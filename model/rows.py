@@ -9,8 +9,8 @@ Row = namedtuple("Row", "place object time account kind item")
 PLATFORM = 1
 
 PREFIXES = {
-    "account": "acct_", "intent": "pi_", "charge": "ch_", "refund": "re_", "dispute": "dp_", "txn": "txn_",
-    "event": "evt_",
+    "account": "acct_", "intent": "pi_", "charge": "ch_", "payment": "py_", "refund": "re_", "dispute": "dp_",
+    "transfer": "tr_", "fee": "fee_", "txn": "txn_", "event": "evt_",
 }
 
 
@@ -59,12 +59,13 @@ class Batch:
     def account_of(self, number):
         return latest(self.rows, number).account
 
-    def owned(self, identity, kind):
-        """The account's object of this kind that a path names."""
-        number = named(self.rows, identity, kind, self.account)
-        if number is None:
-            raise Refusal("no_object")
-        return number
+    def owned(self, identity, *kinds):
+        """The account's object of one of these kinds that a path names."""
+        for kind in kinds:
+            number = named(self.rows, identity, kind, self.account)
+            if number is not None:
+                return number
+        raise Refusal("no_object")
 
     def add(self, kind, item, account=None):
         """A new object; answers its number."""

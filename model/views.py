@@ -2,6 +2,7 @@
 
 import json
 
+import connect
 import errors
 import money
 import rows as book_rows
@@ -27,10 +28,10 @@ def common(rows, number):
     return {"id": printed(rows, number), "created": book_rows.created(rows, number)}
 
 
-def retrieve(kind):
+def retrieve(*kinds):
     """The call that shows the account's object of a kind."""
     def call(batch, identity, _given):
-        return document(batch, batch.owned(identity, kind))
+        return document(batch, batch.owned(identity, *kinds))
     return call
 
 
@@ -40,7 +41,7 @@ def intent(rows, number, item, _time):
         "amount": item["amount"],
         "amount_capturable": money.capturable(rows, number),
         "amount_received": money.received(rows, number),
-        "application_fee_amount": None,
+        "application_fee_amount": item["fee"],
         "cancellation_reason": item["reason"],
         "capture_method": item["capture_method"],
         "client_secret": printed(rows, number) + "_secret_payhost",
@@ -54,7 +55,7 @@ def intent(rows, number, item, _time):
         "object": "payment_intent",
         "payment_method": item["payment_method"],
         "status": item["status"],
-        "transfer_data": None,
+        "transfer_data": {"destination": printed(rows, item["destination"])} if item["destination"] else None,
         "transfer_group": item["transfer_group"],
     }
 
@@ -68,8 +69,8 @@ def charge(rows, number, item, _time):
         "amount": item["amount"],
         "amount_captured": captured,
         "amount_refunded": refunded,
-        "application_fee": None,
-        "application_fee_amount": None,
+        "application_fee": printed(rows, connect.fee_of(rows, number)),
+        "application_fee_amount": item["fee"],
         "balance_transaction": printed(rows, capture.object) if capture else None,
         "captured": capture is not None,
         "currency": item["currency"],
@@ -85,8 +86,62 @@ def charge(rows, number, item, _time):
         "refunded": refunded == captured and captured > 0,
         "source_transfer": None,
         "status": item["status"],
-        "transfer": None,
+        "transfer": printed(rows, connect.transfer_of(rows, number)),
         "transfer_group": item["transfer_group"],
+    }
+
+
+def payment(rows, number, item, time):
+    """A payment is a charge that a transfer gave: it pays no PaymentIntent, and all of it is captured."""
+    given = {"status": "succeeded", "intent": None, "payment_method": None, "description": None, "metadata": {},
+             "transfer_group": None, "dispute": None, "fee": None, **item}
+    return {**charge(rows, number, given, time), "source_transfer": printed(rows, item["transfer"]), "transfer": None,
+            "application_fee": None}
+
+
+def transfer(rows, number, item, _time):
+    return {
+        **common(rows, number),
+        "amount": item["amount"],
+        "amount_reversed": 0,
+        "balance_transaction": printed(rows, txn_from(rows, number)),
+        "currency": item["currency"],
+        "description": None,
+        "destination": printed(rows, item["destination"]),
+        "destination_payment": printed(rows, connect.payment_of(rows, number)),
+        "livemode": False,
+        "metadata": {},
+        "object": "transfer",
+        "reversed": False,
+        "source_transaction": printed(rows, item["charge"]),
+        "transfer_group": item["transfer_group"],
+    }
+
+
+def fee(rows, number, item, _time):
+    return {
+        **common(rows, number),
+        "account": printed(rows, item["account"]),
+        "amount": item["amount"],
+        "amount_refunded": 0,
+        "balance_transaction": printed(rows, txn_from(rows, number)),
+        "charge": printed(rows, item["charge"]),
+        "currency": item["currency"],
+        "livemode": False,
+        "object": "application_fee",
+        "refunded": False,
+    }
+
+
+def account(rows, number, item, _time):
+    return {
+        **common(rows, number),
+        "charges_enabled": True,
+        "email": item["email"],
+        "metadata": item["metadata"],
+        "object": "account",
+        "payouts_enabled": True,
+        "type": item["type"],
     }
 
 
@@ -143,7 +198,8 @@ def txn(rows, number, item, time):
     }
 
 
-DOCUMENTS = {"intent": intent, "charge": charge, "refund": refund, "dispute": dispute, "txn": txn}
+DOCUMENTS = {"account": account, "intent": intent, "charge": charge, "payment": payment, "refund": refund, "dispute": dispute,
+             "transfer": transfer, "fee": fee, "txn": txn}
 
 
 def balance(batch, _identity, _given):

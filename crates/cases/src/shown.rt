@@ -5,8 +5,8 @@
 
 use ph_base::{Bytes, Decline, Method};
 use ph_items::{
-    Account, AccountType, Attempt, AttemptState, Charge, Dispute, Event, Intent, Item, Metadata,
-    Order, PaymentError, PaymentMethod, Refund, Txn,
+    Account, AccountType, Attempt, AttemptState, Charge, Dispute, Event, Fee, Intent, Item,
+    Metadata, Order, PaymentError, PaymentMethod, Refund, Transfer, Txn,
 };
 use ph_money::{Amount, Currency, SignedAmount};
 use ph_rows::Row;
@@ -187,6 +187,18 @@ fn add_reasons(shown: &mut Vec<u8>, intent: &Intent) -> Result<(), AllocError> {
     }
 }
 
+// Adds an application fee that is named, also one of 0.
+fn add_fee_amount(
+    alloc: Global,
+    shown: &mut Vec<u8>,
+    fee: Option<Amount>,
+) -> Result<(), AllocError> {
+    match fee {
+        Some(fee) => add_named_number(alloc, shown, b"fee", fee.units()),
+        None => Ok(()),
+    }
+}
+
 fn add_intent(alloc: Global, shown: &mut Vec<u8>, intent: &Intent) -> Result<(), AllocError> {
     shown.extend_from_slice(b" intent")?;
     add_word(shown, intent.status.text())?;
@@ -197,6 +209,8 @@ fn add_intent(alloc: Global, shown: &mut Vec<u8>, intent: &Intent) -> Result<(),
     add_method(shown, &intent.payment_method)?;
     add_reasons(shown, intent)?;
     add_link(alloc, shown, b"charge", intent.latest_charge)?;
+    add_fee_amount(alloc, shown, intent.application_fee_amount)?;
+    add_link(alloc, shown, b"destination", intent.destination)?;
     add_text(shown, b"description", &intent.description)?;
     add_text(shown, b"group", &intent.transfer_group)?;
     add_pairs(shown, &intent.metadata)
@@ -248,6 +262,8 @@ fn add_capture(alloc: Global, shown: &mut Vec<u8>, charge: &Charge) -> Result<()
     match charge.capture {
         Some(capture) => {
             add_named_number(alloc, shown, b"txn", capture.transaction)?;
+            add_link(alloc, shown, b"moved", capture.transfer)?;
+            add_link(alloc, shown, b"taken", capture.fee)?;
             add_named_number(alloc, shown, b"on", capture.available_on)
         }
         None => Ok(()),
@@ -263,6 +279,8 @@ fn add_charge(alloc: Global, shown: &mut Vec<u8>, charge: &Charge) -> Result<(),
     add_link(alloc, shown, b"intent", charge.sort.intent())?;
     add_link(alloc, shown, b"transfer", charge.sort.transfer())?;
     add_method(shown, &charge.payment_method)?;
+    add_fee_amount(alloc, shown, charge.application_fee_amount)?;
+    add_link(alloc, shown, b"destination", charge.destination)?;
     add_capture(alloc, shown, charge)?;
     add_link(alloc, shown, b"dispute", charge.dispute)?;
     add_text(shown, b"description", &charge.description)?;
@@ -292,6 +310,26 @@ fn add_dispute(alloc: Global, shown: &mut Vec<u8>, dispute: &Dispute) -> Result<
     add_text(shown, b"evidence", &dispute.evidence)
 }
 
+fn add_transfer(alloc: Global, shown: &mut Vec<u8>, transfer: &Transfer) -> Result<(), AllocError> {
+    shown.extend_from_slice(b" transfer")?;
+    add_amount(alloc, shown, transfer.amount, transfer.currency)?;
+    add_named_number(alloc, shown, b"destination", transfer.destination)?;
+    add_named_number(alloc, shown, b"payment", transfer.payment)?;
+    add_link(alloc, shown, b"charge", transfer.source)?;
+    add_named_number(alloc, shown, b"txn", transfer.transaction)?;
+    add_named_number(alloc, shown, b"on", transfer.available_on)?;
+    add_text(shown, b"group", &transfer.transfer_group)
+}
+
+fn add_fee(alloc: Global, shown: &mut Vec<u8>, fee: &Fee) -> Result<(), AllocError> {
+    shown.extend_from_slice(b" fee")?;
+    add_amount(alloc, shown, fee.amount, fee.currency)?;
+    add_named_number(alloc, shown, b"from", fee.account)?;
+    add_named_number(alloc, shown, b"charge", fee.charge)?;
+    add_named_number(alloc, shown, b"txn", fee.transaction)?;
+    add_named_number(alloc, shown, b"on", fee.available_on)
+}
+
 fn add_txn(alloc: Global, shown: &mut Vec<u8>, txn: &Txn) -> Result<(), AllocError> {
     shown.extend_from_slice(b" txn")?;
     add_word(shown, txn.sort.text())?;
@@ -319,6 +357,8 @@ fn add_item(alloc: Global, shown: &mut Vec<u8>, item: &Item) -> Result<(), Alloc
         Item::Charge(charge) => add_charge(alloc, shown, charge),
         Item::Refund(refund) => add_refund(alloc, shown, refund),
         Item::Dispute(dispute) => add_dispute(alloc, shown, dispute),
+        Item::Transfer(transfer) => add_transfer(alloc, shown, transfer),
+        Item::Fee(fee) => add_fee(alloc, shown, fee),
         Item::Txn(txn) => add_txn(alloc, shown, txn),
         Item::Event(event) => add_event(alloc, shown, event),
     }

@@ -11,18 +11,38 @@ const HELP: &str = "payhost answers a profile of the Stripe API v1 (docs/PROFILE
         --connections C       ends when each worker has served C connections, 1 to 1000000 (1000000)
     payhost stdio             answers the requests of standard input on standard output
 
-    Both take, in any order:
+    These two take, in any order:
         --key K               the API key: sk_test_ and more, 9 to 255 visible characters (sk_test_payhost)
         --clock T             the moment at which the book begins, in seconds since 1970 (1700000000)
-        --patience N          how often an acquirer that hasn't answered is asked again, 0 to 1000000 (1000)";
+        --patience N          how often an acquirer that hasn't answered is asked again, 0 to 1000000 (1000)
+
+    payhost sign SECRET T     writes the Stripe-Signature header of the body on standard input, at the moment T
+    payhost verify SECRET HEADER NOW TOLERANCE
+                              judges a header for the body on standard input: good, malformed, mismatch or old";
 
 /// Tells what is wrong with the words; where they ask for help, all that payhost does.
 pub fn tell(rt: &HostRuntime, misuse: &Misuse<'_>, words: &[Bytes]) {
     let _ = if asks_for_help(words) {
         eprintln!(rt; "{HELP}")
+    } else if let Some(wanted) = signing_wants(words) {
+        eprintln!(rt; "payhost: {wanted}; payhost --help says more")
     } else {
         eprintln!(rt; "payhost: {misuse}; payhost --help says more")
     };
+}
+
+// What a command on signatures wants, where its words aren't that.
+fn signing_wants(words: &[Bytes]) -> Option<&'static str> {
+    match words {
+        [] => None,
+        [word, ..] => match word.as_slice() {
+            b"sign" => Some(
+                "sign wants SECRET T, a moment in seconds since 1970, from 0 to 253402300799",
+            ),
+            b"verify" => Some("verify wants SECRET HEADER NOW TOLERANCE, the last two in seconds"),
+            _ => None,
+        },
+    }
 }
 
 // Whether the words ask for help: one of them does.

@@ -5,12 +5,14 @@
 mod help;
 mod once;
 mod serve;
+mod signing;
 mod words;
 
 use once::once;
 use ph_base::NoMemory;
 use ph_host::{Plan, find_misuse, plan};
 use serve::serve;
+use signing::signing;
 use std::process::ExitCode;
 use words::words;
 
@@ -36,13 +38,16 @@ fn main(rt: HostRuntime) -> ExitCode {
             patience,
         ),
         Plan::Once { patience } => once(&rt, words.as_slice(), patience),
-        Plan::Usage => {
-            match find_misuse(words.as_slice()) {
-                Some(misuse) => help::tell(&rt, &misuse, words.as_slice()),
-                None => {}
+        Plan::Usage => match signing(&rt, words.as_slice()) {
+            Some(status) => status,
+            None => {
+                match find_misuse(words.as_slice()) {
+                    Some(misuse) => help::tell(&rt, &misuse, words.as_slice()),
+                    None => {}
+                }
+                once(&rt, words.as_slice(), 0)
             }
-            once(&rt, words.as_slice(), 0)
-        }
+        },
     };
     ExitCode::from(status)
 }

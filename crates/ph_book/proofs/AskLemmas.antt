@@ -18,7 +18,7 @@ use Rattle.ph_idem.specs.Records.{found_in}
 use Rattle.ph_book.specs.Called.{HaveReplies, IsCalled, IsOpening, ServeKeys, asked_if, saved_opening_of}
 use Rattle.ph_book.specs.Calls.{Keys, opens}
 use Rattle.ph_book.specs.Entries.{call_entry}
-use Rattle.ph_book.specs.History.{Effect, deed_asks, effect_to, past_of, request_effect, rows_of, time_of}
+use Rattle.ph_book.specs.History.{Effect, asks_to, effect_to, past_of, request_effect, rows_of, time_of}
 use Rattle.ph_book.specs.Hosts as host
 use Rattle.ph_book.specs.Keys.{asked_in, request_of}
 use Rattle.ph_book.specs.Replies.{Said, Replies, Waits}
@@ -51,19 +51,24 @@ book_replies setup history rows time weight attempts records live b asked entry 
 -- what the program made of a call is what it comes to after the history
 pub call_made : (old : BookState) (setup : Setup) (history : List Entry) (rows : List Row) (time weight : ℕ) (attempts : List flights.Attempt) (records : List KeyRecord) (live place caller : ℕ) (raw : Raw) (made : Called)
     → record { setup = setup; history = history } ≡ old → IsBook setup history rows time weight attempts records live → place ≡ length history + 1
-    → IsCalled rows time place caller (asked_in (request_of setup.key raw)) (asked_if (opens (known setup history) (asked_in (request_of setup.key raw))) (asked_in (request_of setup.key raw)))
-    (request_effect setup (known setup history) rows time place caller raw (asked_in (request_of setup.key raw))) made
-    → IsCalled (rows_of old.setup old.history) (time_of old.setup old.history) (length old.history + 1) caller (deed_asks old.setup (deed.Call raw))
-    (asked_if (effect_to old.setup old.history (call_entry caller raw)).saves (deed_asks old.setup (deed.Call raw))) (effect_to old.setup old.history (call_entry caller raw)) made
+    → IsCalled rows time place caller (asked_in (request_of setup.key rows raw)) (asked_if (opens (known setup history) (asked_in (request_of setup.key rows raw))) (asked_in (request_of setup.key rows raw)))
+    (request_effect setup (known setup history) rows time place caller raw (asked_in (request_of setup.key rows raw))) made
+    → IsCalled (rows_of old.setup old.history) (time_of old.setup old.history) (length old.history + 1) caller (asks_to old.setup old.history (deed.Call raw))
+    (asked_if (effect_to old.setup old.history (call_entry caller raw)).saves (asks_to old.setup old.history (deed.Call raw))) (effect_to old.setup old.history (call_entry caller raw)) made
+unfolding rows_of
 call_made old setup history rows time weight attempts records live place caller raw made is b at comes =
     let here : BookState = record { setup = setup; history = history } in
-    let asks : Option Asked = asked_in (request_of setup.key raw) in
-    subst (λ (x : BookState). IsCalled (rows_of x.setup x.history) (time_of x.setup x.history) (length x.history + 1) caller (deed_asks x.setup (deed.Call raw))
-    (asked_if (effect_to x.setup x.history (call_entry caller raw)).saves (deed_asks x.setup (deed.Call raw))) (effect_to x.setup x.history (call_entry caller raw)) made) is
+    let asks : Option Asked = asked_in (request_of setup.key rows raw) in
+    let same : asks ≡ asks_to setup history (deed.Call raw) = ap (λ (r : List Row). asked_in (request_of setup.key r raw)) b.rows_are in
+    let saves : (effect_to setup history (call_entry caller raw)).saves ≡ opens (known setup history) asks =
+    saves_opens setup history caller raw ∙ ap (opens (known setup history)) (sym same) in
+    subst (λ (x : BookState). IsCalled (rows_of x.setup x.history) (time_of x.setup x.history) (length x.history + 1) caller (asks_to x.setup x.history (deed.Call raw))
+    (asked_if (effect_to x.setup x.history (call_entry caller raw)).saves (asks_to x.setup x.history (deed.Call raw))) (effect_to x.setup x.history (call_entry caller raw)) made) is
+    (subst (λ (a : Option Asked). IsCalled (rows_of setup history) (time_of setup history) (length history + 1) caller a (asked_if (effect_to setup history (call_entry caller raw)).saves a) (effect_to setup history (call_entry caller raw)) made) same
     (subst (λ n. IsCalled (rows_of setup history) (time_of setup history) n caller asks (asked_if (effect_to setup history (call_entry caller raw)).saves asks) (effect_to setup history (call_entry caller raw)) made) at
     (called_is here setup history rows time weight attempts records live place caller raw made refl b at asks (asked_if (effect_to setup history (call_entry caller raw)).saves asks)
     (subst (λ open_. IsCalled rows time place caller asks (asked_if open_ asks) (request_effect setup (known setup history) rows time place caller raw asks) made)
-    (sym (saves_opens setup history caller raw)) comes)))
+    (sym saves) comes))))
 
 -- it is what is made of it, in each case
 pub called_as : (rows : List Row) (now place caller : ℕ) (asks opened : Option Asked) (effect : Effect) (called other : Called) → called ≡ other
@@ -90,7 +95,7 @@ answered_opening asks effect reply opening said is other said_other =
 
 -- a call that waits by itself begins its attempt
 pub waiting_step : (setup : Setup) (history : List Entry) (caller : ℕ) (raw : Raw) (order : Order) → host.IsLawful setup history
-    → asked_if (effect_to setup history (call_entry caller raw)).saves (deed_asks setup (deed.Call raw)) ≡ deed_asks setup (deed.Call raw)
+    → asked_if (effect_to setup history (call_entry caller raw)).saves (asks_to setup history (deed.Call raw)) ≡ asks_to setup history (deed.Call raw)
     → (effect_to setup history (call_entry caller raw)).said ≡ Waits order
     → step_of (effect_to setup history (call_entry caller raw)).doing ≡ Some (Begins (record { caller = caller; run = length history + 1; order = order }))
 waiting_step setup history caller raw order lawful opened said = call_begins setup history caller raw order lawful.few lawful.legal opened said

@@ -1,12 +1,12 @@
 -- What requests come to keeps the rows sound, by the law of each call.
 use Rattle.std.proofs.Common.{◌≡◌, ℕ, ◌+◌, ◌≤◌, Bool, true, false, cond, not, nat_lt, List, [], length, Option, None, Some, Result, Ok, Err, refl, arith, codes, IfOk}
 use Rattle.std.specs.List.{list_all}
+use Rattle.std.specs.Option.{option_or}
 use Rattle.std.specs.Str.{is_utf8}
 use Rattle.std.proofs.lemmas.Bool.Decides.{nat_tests}
 use Rattle.ph_base.specs.declared.ids.Kind.{Kind}
 use Rattle.ph_errors.specs.declared.api_error.ApiError.{ApiError}
 use Rattle.ph_errors.specs.Table.{ClockBackwards, InvalidApiKey, KeyNotText, KeyTooLong, NoSuchAccount, error_of}
-use Rattle.ph_items.specs.Accounts.{platform}
 use Rattle.ph_items.specs.Clocks.{clock_limit}
 use Rattle.ph_items.specs.Weights.{with_text}
 use Rattle.ph_rows.specs.declared.rows.Row.{Row}
@@ -40,10 +40,13 @@ use Rattle.ph_intents.proofs.KeepsLemmas.{create_keeps, create_confirmed_keeps, 
 use Rattle.ph_refunds.proofs.LawLemmas.{refund_keeps}
 use Rattle.ph_disputes.proofs.AnswerLemmas.{close_keeps, evidence_keeps}
 use Rattle.ph_disputes.proofs.OpeningLemmas.{open_due_keeps}
+use Rattle.ph_accounts.specs.Create as accounts
+use Rattle.ph_accounts.specs.Naming.{account_of}
+use Rattle.ph_accounts.proofs.EntryLemmas as new_accounts
 use Rattle.ph_book.specs.declared.judged.Judged.{Judged}
 use Rattle.ph_book.specs.declared.judged.Judged.TheVariants.{Refused, Accepted}
-use Rattle.ph_book.specs.Calls.{key_asked, Upshot, Rejects, Replays, Makes, Shows, Sets, and_opened, authenticated, carried, clock_set, found_outcome, retrieved}
-use Rattle.ph_book.specs.Keys.{asked_in, asked_by, formed_request, is_key, is_platform, key_of, keyed_request, read_request, request_of}
+use Rattle.ph_book.specs.Calls.{key_asked, Upshot, Rejects, Replays, Makes, Shows, Sets, and_opened, authenticated, carried, clock_set, found_outcome, payment_named, retrieved}
+use Rattle.ph_book.specs.Keys.{account_request, asked_in, asked_by, formed_request, is_key, key_of, keyed_request, read_request, request_of}
 use Rattle.ph_book.proofs.ErrorLemmas.{IfRefused, IsAnswered, answered, chosen, reading_answered}
 
 -- the error of a request that is no call can be answered; what a call comes to keeps the rows sound; or the clock is set to a moment
@@ -56,9 +59,9 @@ KeepsCall state (Shows doc) = Unit {0}
 KeepsCall state (Sets moment) = (state.time ≤ moment) × (moment ≤ clock_limit)
 
 -- a retrieve
-retrieved_keeps : (state : ViewState) (entry : ℕ) (wanted : Kind) (id : List ℕ) → IsSound state
-    → KeepsRows state most_rows (retrieved state.rows wanted id (batch_after state entry))
-retrieved_keeps state entry wanted id sound = kept_few state 0 most_rows (retrieved state.rows wanted id (batch_after state entry)) (at (owned_named state.rows platform wanted id)) (omega arith)
+retrieved_keeps : (state : ViewState) (entry account : ℕ) (wanted : Kind) (id : List ℕ) → IsSound state
+    → KeepsRows state most_rows (retrieved state.rows account wanted id (batch_after state entry))
+retrieved_keeps state entry account wanted id sound = kept_few state 0 most_rows (retrieved state.rows account wanted id (batch_after state entry)) (at (option_or (owned_named state.rows account wanted id) (payment_named state.rows account wanted id))) (omega arith)
   where
     at : (found : Option Row) → KeepsRows state 0 (found_outcome found (batch_after state entry))
     at None = no_object (codes "id")
@@ -74,10 +77,10 @@ opened_keeps state most (Adds touch object batch) ready less keeps =
     kept_few state (most + 4) most_rows (and_opened state.rows (Adds touch object batch))
     (open_due_keeps state most touch batch object ready.sound keeps.0 (omega arith), keeps.1) less
 
-authenticated_keeps : (state : ViewState) (entry : ℕ) (c : Authenticate) (outcome : Authentication) → IsReady state
-    → KeepsRows state 2 (authenticated state.rows c (batch_after state entry) outcome)
-authenticated_keeps state entry c Succeeded ready = authenticate_keeps state entry platform c ready refl
-authenticated_keeps state entry c Failed ready = fail_authentication_keeps state entry platform c ready refl
+authenticated_keeps : (state : ViewState) (entry account : ℕ) (c : Authenticate) (outcome : Authentication) → IsReady state
+    → KeepsRows state 2 (authenticated state.rows account c (batch_after state entry) outcome)
+authenticated_keeps state entry account c Succeeded ready = authenticate_keeps state entry account c ready refl
+authenticated_keeps state entry account c Failed ready = fail_authentication_keeps state entry account c ready refl
 
 backwards : is_refusal (error_of ClockBackwards) ≡ true
 unfolding error_of
@@ -91,82 +94,87 @@ clock_keeps state moment shown = at (nat_lt moment state.time) refl
     at false e = (grind (arith, nat_tests), shown)
 
 -- a call that is carried out: one line for each row of the table of calls
-pub carried_keeps : (state : ViewState) (entry : ℕ) (c : Call) → IsReady state → calls.IsFit c → KeepsCall state (carried state.rows state.time c (batch_after state entry))
-carried_keeps state entry (call.CreateIntent c) ready fit =
-    chosen (KeepsRows state most_rows) c.confirm (create_confirmed_outcome state.rows platform c (batch_after state entry))
-    (create_outcome state.rows platform c (batch_after state entry))
-    (kept_few state 3 most_rows (create_confirmed_outcome state.rows platform c (batch_after state entry)) (create_confirmed_keeps state entry platform c ready fit.texts) (omega arith))
-    (kept_few state 2 most_rows (create_outcome state.rows platform c (batch_after state entry)) (create_keeps state entry platform c ready fit.texts) (omega arith))
-carried_keeps state entry (call.UpdateIntent c) ready fit = kept_few state 1 most_rows (update_outcome state.rows platform c (batch_after state entry)) (update_keeps state entry platform c ready fit.texts) (omega arith)
-carried_keeps state entry (call.ConfirmIntent c) ready fit = kept_few state 2 most_rows (confirm_outcome state.rows platform c (batch_after state entry)) (confirm_keeps state entry platform c ready fit.texts) (omega arith)
-carried_keeps state entry (call.CaptureIntent c) ready fit =
-    opened_keeps state 5 (capture_outcome state.rows platform c (batch_after state entry)) ready (omega arith) (capture_keeps state entry platform c ready refl)
-carried_keeps state entry (call.CancelIntent c) ready fit = kept_few state 2 most_rows (cancel_outcome state.rows platform c (batch_after state entry)) (cancel_keeps state entry platform c ready refl) (omega arith)
-carried_keeps state entry (call.CreateRefund c) ready fit = kept_few state 4 most_rows (refund_outcome state.rows platform c (batch_after state entry)) (refund_keeps state entry platform c ready fit.texts) (omega arith)
-carried_keeps state entry (call.SendEvidence c) ready fit = kept_few state 3 most_rows (evidence_outcome state.rows platform c (batch_after state entry)) (evidence_keeps state entry platform c ready fit.texts) (omega arith)
-carried_keeps state entry (call.CloseDispute c) ready fit = kept_few state 2 most_rows (close_outcome state.rows platform c (batch_after state entry)) (close_keeps state entry platform c ready refl) (omega arith)
-carried_keeps state entry (call.Retrieve c) ready fit = retrieved_keeps state entry c.kind c.id ready.sound
-carried_keeps state entry (call.GetBalance c) ready fit = tt
-carried_keeps state entry (call.SetClock c) ready fit = clock_keeps state c.now fit.shown
-carried_keeps state entry (call.Authenticate c) ready fit = kept_few state 2 most_rows (authenticated state.rows c (batch_after state entry) c.outcome) (authenticated_keeps state entry c c.outcome ready) (omega arith)
+pub carried_keeps : (state : ViewState) (entry account : ℕ) (c : Call) → IsReady state → calls.IsFit c → KeepsCall state (carried state.rows account state.time c (batch_after state entry))
+carried_keeps state entry account (call.CreateIntent c) ready fit =
+    chosen (KeepsRows state most_rows) c.confirm (create_confirmed_outcome state.rows account c (batch_after state entry))
+    (create_outcome state.rows account c (batch_after state entry))
+    (kept_few state 3 most_rows (create_confirmed_outcome state.rows account c (batch_after state entry)) (create_confirmed_keeps state entry account c ready fit.texts) (omega arith))
+    (kept_few state 2 most_rows (create_outcome state.rows account c (batch_after state entry)) (create_keeps state entry account c ready fit.texts) (omega arith))
+carried_keeps state entry account (call.UpdateIntent c) ready fit = kept_few state 1 most_rows (update_outcome state.rows account c (batch_after state entry)) (update_keeps state entry account c ready fit.texts) (omega arith)
+carried_keeps state entry account (call.ConfirmIntent c) ready fit = kept_few state 2 most_rows (confirm_outcome state.rows account c (batch_after state entry)) (confirm_keeps state entry account c ready fit.texts) (omega arith)
+carried_keeps state entry account (call.CaptureIntent c) ready fit =
+    opened_keeps state 13 (capture_outcome state.rows account c (batch_after state entry)) ready (omega arith) (capture_keeps state entry account c ready refl)
+carried_keeps state entry account (call.CancelIntent c) ready fit = kept_few state 2 most_rows (cancel_outcome state.rows account c (batch_after state entry)) (cancel_keeps state entry account c ready refl) (omega arith)
+carried_keeps state entry account (call.CreateRefund c) ready fit = kept_few state 4 most_rows (refund_outcome state.rows account c (batch_after state entry)) (refund_keeps state entry account c ready fit.texts) (omega arith)
+carried_keeps state entry account (call.SendEvidence c) ready fit = kept_few state 3 most_rows (evidence_outcome state.rows account c (batch_after state entry)) (evidence_keeps state entry account c ready fit.texts) (omega arith)
+carried_keeps state entry account (call.CloseDispute c) ready fit = kept_few state 2 most_rows (close_outcome state.rows account c (batch_after state entry)) (close_keeps state entry account c ready refl) (omega arith)
+carried_keeps state entry account (call.CreateAccount c) ready fit = kept_few state 1 most_rows (accounts.create_outcome state.rows account c (batch_after state entry)) (new_accounts.create_keeps state entry account c ready fit.texts) (omega arith)
+carried_keeps state entry account (call.Retrieve c) ready fit = retrieved_keeps state entry account c.kind c.id ready.sound
+carried_keeps state entry account (call.GetBalance c) ready fit = tt
+carried_keeps state entry account (call.SetClock c) ready fit = clock_keeps state c.now fit.shown
+carried_keeps state entry account (call.Authenticate c) ready fit = kept_few state 2 most_rows (authenticated state.rows account c (batch_after state entry) c.outcome) (authenticated_keeps state entry account c c.outcome ready) (omega arith)
 
 -- the error of a request that is refused can be answered, and a call that is accepted is fit to be carried out
 abbrev pub KeepsJudged : Judged → Type 0
 KeepsJudged (Refused error) = IsAnswered error
-KeepsJudged (Accepted c asked) = calls.IsFit c
+KeepsJudged (Accepted account c asked) = calls.IsFit c
 
-keyed_keeps : (raw : Raw) (c : Call) (tree : List Leaf) (key : Option (List ℕ)) → calls.IsFit c → KeepsJudged (keyed_request raw c tree key)
-keyed_keeps raw c tree None fit = fit
-keyed_keeps raw c tree (Some key) fit =
+keyed_keeps : (account : ℕ) (raw : Raw) (c : Call) (tree : List Leaf) (key : Option (List ℕ)) → calls.IsFit c → KeepsJudged (keyed_request account raw c tree key)
+keyed_keeps account raw c tree None fit = fit
+keyed_keeps account raw c tree (Some key) fit =
     chosen KeepsJudged (nat_lt 255 (length key)) (Refused (error_of KeyTooLong))
-    (cond (not (is_utf8 key)) (Refused (error_of KeyNotText)) (Accepted c (Some (asked_by raw tree key)))) (answered KeyTooLong)
-    (chosen KeepsJudged (not (is_utf8 key)) (Refused (error_of KeyNotText)) (Accepted c (Some (asked_by raw tree key))) (answered KeyNotText) fit)
+    (cond (not (is_utf8 key)) (Refused (error_of KeyNotText)) (Accepted account c (Some (asked_by account raw tree key)))) (answered KeyTooLong)
+    (chosen KeepsJudged (not (is_utf8 key)) (Refused (error_of KeyNotText)) (Accepted account c (Some (asked_by account raw tree key))) (answered KeyNotText) fit)
 
-formed_keeps : (raw : Raw) (c : Call) (form : Result (List Leaf) FormFault) → calls.IsFit c → KeepsJudged (formed_request raw c form)
-formed_keeps raw c (Err fault) fit = fit
-formed_keeps raw c (Ok tree) fit = keyed_keeps raw c tree (key_of raw) fit
+formed_keeps : (account : ℕ) (raw : Raw) (c : Call) (form : Result (List Leaf) FormFault) → calls.IsFit c → KeepsJudged (formed_request account raw c form)
+formed_keeps account raw c (Err fault) fit = fit
+formed_keeps account raw c (Ok tree) fit = keyed_keeps account raw c tree (key_of raw) fit
 
-read_keeps : (raw : Raw) (reading : Result Call ApiError) → IfRefused reading → IfOk reading calls.IsFit → KeepsJudged (read_request raw reading)
-read_keeps raw (Err error) refused fit = refused
-read_keeps raw (Ok c) refused fit = formed_keeps raw c (form_of raw) fit
+read_keeps : (account : ℕ) (raw : Raw) (reading : Result Call ApiError) → IfRefused reading → IfOk reading calls.IsFit → KeepsJudged (read_request account raw reading)
+read_keeps account raw (Err error) refused fit = refused
+read_keeps account raw (Ok c) refused fit = formed_keeps account raw c (form_of raw) fit
+
+-- a request of the account that it names
+account_keeps : (raw : Raw) (found : Option ℕ) → KeepsJudged (account_request raw found)
+account_keeps raw None = answered NoSuchAccount
+account_keeps raw (Some account) =
+    read_keeps account raw (reading_of account raw) (reading_answered account raw) (reading_fit account raw)
 
 -- what the steps of a request before its own make of it
-pub judged_keeps : (key : List ℕ) (raw : Raw) → KeepsJudged (request_of key raw)
+pub judged_keeps : (key : List ℕ) (rows : List Row) (raw : Raw) → KeepsJudged (request_of key rows raw)
 unfolding request_of
-judged_keeps key raw =
-    let read : Judged = read_request raw (reading_of raw) in
+judged_keeps key rows raw =
     chosen KeepsJudged (not (is_key key raw.auth)) (Refused (error_of InvalidApiKey))
-    (cond (not (is_platform raw.account)) (Refused (error_of NoSuchAccount)) read) (answered InvalidApiKey)
-    (chosen KeepsJudged (not (is_platform raw.account)) (Refused (error_of NoSuchAccount)) read (answered NoSuchAccount)
-    (read_keeps raw (reading_of raw) (reading_answered raw) (reading_fit raw)))
+    (account_request raw (account_of rows raw.account)) (answered InvalidApiKey) (account_keeps raw (account_of rows raw.account))
 
 -- a key under which something is asked is text
 abbrev pub IsText : Option (List ℕ) → Type 0
 IsText key = list_all is_utf8 (with_text key []) ≡ true
 
-keyed_text : (raw : Raw) (c : Call) (tree : List Leaf) (key : Option (List ℕ)) → IsText (key_asked (asked_in (keyed_request raw c tree key)))
-keyed_text raw c tree None = refl
-keyed_text raw c tree (Some key) = at (nat_lt 255 (length key)) (is_utf8 key) refl
+keyed_text : (account : ℕ) (raw : Raw) (c : Call) (tree : List Leaf) (key : Option (List ℕ)) → IsText (key_asked (asked_in (keyed_request account raw c tree key)))
+keyed_text account raw c tree None = refl
+keyed_text account raw c tree (Some key) = at (nat_lt 255 (length key)) (is_utf8 key) refl
   where
     at : (long text : Bool) → is_utf8 key ≡ text
-        → IsText (key_asked (asked_in (cond long (Refused (error_of KeyTooLong)) (cond (not text) (Refused (error_of KeyNotText)) (Accepted c (Some (asked_by raw tree key)))))))
+        → IsText (key_asked (asked_in (cond long (Refused (error_of KeyTooLong)) (cond (not text) (Refused (error_of KeyNotText)) (Accepted account c (Some (asked_by account raw tree key)))))))
     at true text e = refl
     at false false e = refl
     at false true e = rw e refl
 
-formed_text : (raw : Raw) (c : Call) (form : Result (List Leaf) FormFault) → IsText (key_asked (asked_in (formed_request raw c form)))
-formed_text raw c (Err fault) = refl
-formed_text raw c (Ok tree) = keyed_text raw c tree (key_of raw)
+formed_text : (account : ℕ) (raw : Raw) (c : Call) (form : Result (List Leaf) FormFault) → IsText (key_asked (asked_in (formed_request account raw c form)))
+formed_text account raw c (Err fault) = refl
+formed_text account raw c (Ok tree) = keyed_text account raw c tree (key_of raw)
 
-read_text : (raw : Raw) (reading : Result Call ApiError) → IsText (key_asked (asked_in (read_request raw reading)))
-read_text raw (Err error) = refl
-read_text raw (Ok c) = formed_text raw c (form_of raw)
+read_text : (account : ℕ) (raw : Raw) (reading : Result Call ApiError) → IsText (key_asked (asked_in (read_request account raw reading)))
+read_text account raw (Err error) = refl
+read_text account raw (Ok c) = formed_text account raw c (form_of raw)
 
-pub judged_text : (key : List ℕ) (raw : Raw) → IsText (key_asked (asked_in (request_of key raw)))
+account_text : (raw : Raw) (found : Option ℕ) → IsText (key_asked (asked_in (account_request raw found)))
+account_text raw None = refl
+account_text raw (Some account) = read_text account raw (reading_of account raw)
+
+pub judged_text : (key : List ℕ) (rows : List Row) (raw : Raw) → IsText (key_asked (asked_in (request_of key rows raw)))
 unfolding request_of
-judged_text key raw =
-    let read : Judged = read_request raw (reading_of raw) in
+judged_text key rows raw =
     chosen (λ (j : Judged). IsText (key_asked (asked_in j))) (not (is_key key raw.auth)) (Refused (error_of InvalidApiKey))
-    (cond (not (is_platform raw.account)) (Refused (error_of NoSuchAccount)) read) refl
-    (chosen (λ (j : Judged). IsText (key_asked (asked_in j))) (not (is_platform raw.account)) (Refused (error_of NoSuchAccount)) read refl
-    (read_text raw (reading_of raw)))
+    (account_request raw (account_of rows raw.account)) refl (account_text raw (account_of rows raw.account))

@@ -217,7 +217,7 @@ pub ruled_done : (state : ViewState) (past : List Doing) (place : ℕ) (flight :
     → IsDone state most_rows (Settles may.intent flight.order may.processing.intent.capture_method ruling) may.intent
     (ruled_outcome state.rows state.time place flight.order.reference ruling)
 ruled_done state past place flight ruling stands may =
-    done_opened state 6 (Settles may.intent flight.order may.processing.intent.capture_method ruling) may.intent
+    done_opened state 14 (Settles may.intent flight.order may.processing.intent.capture_method ruling) may.intent
     (settle_outcome state.rows flight.order.reference ruling (batch_after state place)) stands.ready (omega arith)
     (settle_keeps state place may.intent flight.order ruling stands.ready may.attempt may.processing)
 
@@ -420,18 +420,18 @@ abbrev pub KnowsParked : Keys → List Doing → Type 0
 KnowsParked keys past = (asked : Asked) (reference : ℕ) → keys.found asked ≡ found.Parked reference → StandsParked past reference
 
 -- what a call comes to by what it finds under its key
-found_comes : (state : ViewState) (keys : Keys) (past : List Doing) (place caller : ℕ) (c : Call) (asked : Asked) → Stands state past
+found_comes : (state : ViewState) (keys : Keys) (past : List Doing) (place caller account : ℕ) (c : Call) (asked : Asked) → Stands state past
     → place ≡ suc (length past) → calls.IsFit c → IsText (Some asked.key) → KnowsParked keys past → (what : Found) → keys.found asked ≡ what
     → Comes state past (call_effect (Some asked.key) (is_fresh what) state.rows state.time place caller
-    (by_found keys state.rows (batch_after state place) (carried state.rows state.time c (batch_after state place)) what))
-found_comes state keys past place caller c asked stands next fit text knows found.Fresh is =
-    call_comes state past (Some asked.key) true place caller (carried state.rows state.time c (batch_after state place)) stands text next
-    (carried_keeps state place c stands.ready fit)
-found_comes state keys past place caller c asked stands next fit text knows found.Differs is = same_comes state past _ false stands
-found_comes state keys past place caller c asked stands next fit text knows found.Live is = same_comes state past _ false stands
-found_comes state keys past place caller c asked stands next fit text knows (found.Parked reference) is =
+    (by_found keys state.rows (batch_after state place) (carried state.rows account state.time c (batch_after state place)) what))
+found_comes state keys past place caller account c asked stands next fit text knows found.Fresh is =
+    call_comes state past (Some asked.key) true place caller (carried state.rows account state.time c (batch_after state place)) stands text next
+    (carried_keeps state place account c stands.ready fit)
+found_comes state keys past place caller account c asked stands next fit text knows found.Differs is = same_comes state past _ false stands
+found_comes state keys past place caller account c asked stands next fit text knows found.Live is = same_comes state past _ false stands
+found_comes state keys past place caller account c asked stands next fit text knows (found.Parked reference) is =
     resumed_comes state past (Some asked.key) place caller reference stands text next (knows asked reference is)
-found_comes state keys past place caller c asked stands next fit text knows (found.Saved at) is = same_comes state past _ false stands
+found_comes state keys past place caller account c asked stands next fit text knows (found.Saved at) is = same_comes state past _ false stands
 
 -- what a request comes to
 request_comes : (state : ViewState) (keys : Keys) (past : List Doing) (place caller : ℕ) (judged : Judged) → Stands state past
@@ -439,18 +439,18 @@ request_comes : (state : ViewState) (keys : Keys) (past : List Doing) (place cal
     → Comes state past (call_effect (key_asked (asked_in judged)) (opens keys (asked_in judged)) state.rows state.time place caller
     (request_upshot keys state.rows state.time (batch_after state place) judged))
 request_comes state keys past place caller (Refused error) stands next keeps text knows = same_comes state past _ false stands
-request_comes state keys past place caller (Accepted c None) stands next keeps text knows =
-    call_comes state past None false place caller (carried state.rows state.time c (batch_after state place)) stands text next
-    (carried_keeps state place c stands.ready keeps)
-request_comes state keys past place caller (Accepted c (Some asked)) stands next keeps text knows =
-    found_comes state keys past place caller c asked stands next keeps text knows (keys.found asked) refl
+request_comes state keys past place caller (Accepted account c None) stands next keeps text knows =
+    call_comes state past None false place caller (carried state.rows account state.time c (batch_after state place)) stands text next
+    (carried_keeps state place account c stands.ready keeps)
+request_comes state keys past place caller (Accepted account c (Some asked)) stands next keeps text knows =
+    found_comes state keys past place caller account c asked stands next keeps text knows (keys.found asked) refl
 
 call_at_comes : (setup : Setup) (state : ViewState) (keys : Keys) (past : List Doing) (place caller : ℕ) (raw : Raw) → Stands state past
     → place ≡ suc (length past) → KnowsParked keys past
     → Comes state past (effect_of setup keys past state.rows state.time place caller (deed.Call raw))
 unfolding called_at
 call_at_comes setup state keys past place caller raw stands next knows =
-    request_comes state keys past place caller (request_of setup.key raw) stands next (judged_keeps setup.key raw) (judged_text setup.key raw) knows
+    request_comes state keys past place caller (request_of setup.key state.rows raw) stands next (judged_keeps setup.key state.rows raw) (judged_text setup.key state.rows raw) knows
 
 -- the parked attempt whose last park stands earliest is taken up again
 resume_comes : (state : ViewState) (past : List Doing) (place caller : ℕ) (first : Option Order) → Stands state past
@@ -518,20 +518,20 @@ request_does : (state : ViewState) (keys : Keys) (past : List Doing) (place call
     → DoesByFound (keys.found asked) (call_effect (key_asked (asked_in judged)) (opens keys (asked_in judged)) state.rows state.time place caller
     (request_upshot keys state.rows state.time (batch_after state place) judged)).doing
 request_does state keys past place caller (Refused error) asked stands knows asks = absurd (cc)
-request_does state keys past place caller (Accepted c None) asked stands knows asks = absurd (cc)
-request_does state keys past place caller (Accepted c (Some of)) asked stands knows asks =
+request_does state keys past place caller (Accepted account c None) asked stands knows asks = absurd (cc)
+request_does state keys past place caller (Accepted account c (Some of)) asked stands knows asks =
     let same : of ≡ asked = cc in
     subst (λ (x : Asked). DoesByFound (keys.found x) (call_effect (Some of.key) (is_fresh (keys.found of)) state.rows state.time place caller
-    (by_found keys state.rows (batch_after state place) (carried state.rows state.time c (batch_after state place)) (keys.found of))).doing) same
-    (found_does state keys past place caller (carried state.rows state.time c (batch_after state place)) of stands knows (keys.found of) refl)
+    (by_found keys state.rows (batch_after state place) (carried state.rows account state.time c (batch_after state place)) (keys.found of))).doing) same
+    (found_does state keys past place caller (carried state.rows account state.time c (batch_after state place)) of stands knows (keys.found of) refl)
 
 -- what a deed does that asks this under a key
 pub deed_does : (setup : Setup) (state : ViewState) (keys : Keys) (past : List Doing) (place caller : ℕ) (d : Deed) (asked : Asked) → Stands state past
-    → KnowsParked keys past → deed_asks setup d ≡ Some asked
+    → KnowsParked keys past → deed_asks setup state.rows d ≡ Some asked
     → DoesByFound (keys.found asked) (effect_of setup keys past state.rows state.time place caller d).doing
 unfolding called_at
 deed_does setup state keys past place caller (deed.Call raw) asked stands knows asks =
-    request_does state keys past place caller (request_of setup.key raw) asked stands knows asks
+    request_does state keys past place caller (request_of setup.key state.rows raw) asked stands knows asks
 deed_does setup state keys past place caller (deed.Finish run ruling) asked stands knows asks = absurd (cc)
 deed_does setup state keys past place caller (deed.Park run why) asked stands knows asks = absurd (cc)
 deed_does setup state keys past place caller deed.Resume asked stands knows asks = absurd (cc)
@@ -545,19 +545,19 @@ request_tells : (state : ViewState) (keys : Keys) (past : List Doing) (place cal
     (call_effect (key_asked (asked_in judged)) (opens keys (asked_in judged)) state.rows state.time place caller
     (request_upshot keys state.rows state.time (batch_after state place) judged)).doing
 request_tells state keys past place caller (Refused error) asked stands keeps asks fresh = absurd (cc)
-request_tells state keys past place caller (Accepted c None) asked stands keeps asks fresh = absurd (cc)
-request_tells state keys past place caller (Accepted c (Some of)) asked stands keeps asks fresh =
+request_tells state keys past place caller (Accepted account c None) asked stands keeps asks fresh = absurd (cc)
+request_tells state keys past place caller (Accepted account c (Some of)) asked stands keeps asks fresh =
     let same : of ≡ asked = cc in
     let free : keys.found of ≡ found.Fresh = ap keys.found same ∙ fresh in
-    rw free (own_tells state (Some of.key) true place caller (carried state.rows state.time c (batch_after state place))
-    (carried_keeps state place c stands.ready keeps))
+    rw free (own_tells state (Some of.key) true place caller (carried state.rows account state.time c (batch_after state place))
+    (carried_keeps state place account c stands.ready keeps))
 
 pub deed_tells : (setup : Setup) (state : ViewState) (keys : Keys) (past : List Doing) (place caller : ℕ) (d : Deed) (asked : Asked) → Stands state past
-    → deed_asks setup d ≡ Some asked → keys.found asked ≡ found.Fresh
+    → deed_asks setup state.rows d ≡ Some asked → keys.found asked ≡ found.Fresh
     → Tells (said_briefly (effect_of setup keys past state.rows state.time place caller d).said) (effect_of setup keys past state.rows state.time place caller d).doing
 unfolding called_at
 deed_tells setup state keys past place caller (deed.Call raw) asked stands asks fresh =
-    request_tells state keys past place caller (request_of setup.key raw) asked stands (judged_keeps setup.key raw) asks fresh
+    request_tells state keys past place caller (request_of setup.key state.rows raw) asked stands (judged_keeps setup.key state.rows raw) asks fresh
 deed_tells setup state keys past place caller (deed.Finish run ruling) asked stands asks fresh = absurd (cc)
 deed_tells setup state keys past place caller (deed.Park run why) asked stands asks fresh = absurd (cc)
 deed_tells setup state keys past place caller deed.Resume asked stands asks fresh = absurd (cc)
@@ -590,19 +590,19 @@ request_waits : (rows : List Row) (now : ℕ) (keys : Keys) (place caller : ℕ)
     → said_briefly (call_effect (key_asked (asked_in judged)) (opens keys (asked_in judged)) rows now place caller
     (request_upshot keys rows now (empty_batch (length rows) now place) judged)).said ≡ found.Waits reference
 request_waits rows now keys place caller (Refused error) asked asks fresh reference is = absurd (cc)
-request_waits rows now keys place caller (Accepted c None) asked asks fresh reference is = absurd (cc)
-request_waits rows now keys place caller (Accepted c (Some of)) asked asks fresh reference is =
+request_waits rows now keys place caller (Accepted account c None) asked asks fresh reference is = absurd (cc)
+request_waits rows now keys place caller (Accepted account c (Some of)) asked asks fresh reference is =
     let same : of ≡ asked = cc in
     let free : keys.found of ≡ found.Fresh = ap keys.found same ∙ fresh in
-    rw free (own_waits (Some of.key) true rows now place caller (carried rows now c (empty_batch (length rows) now place)) reference (rw free at is))
+    rw free (own_waits (Some of.key) true rows now place caller (carried rows account now c (empty_batch (length rows) now place)) reference (rw free at is))
 
 pub deed_waits : (setup : Setup) (rows : List Row) (now : ℕ) (keys : Keys) (past : List Doing) (place caller : ℕ) (d : Deed) (asked : Asked)
-    → deed_asks setup d ≡ Some asked → keys.found asked ≡ found.Fresh → (reference : ℕ)
+    → deed_asks setup rows d ≡ Some asked → keys.found asked ≡ found.Fresh → (reference : ℕ)
     → begun_by (effect_of setup keys past rows now place caller d).doing ≡ Some reference
     → said_briefly (effect_of setup keys past rows now place caller d).said ≡ found.Waits reference
 unfolding called_at
 deed_waits setup rows now keys past place caller (deed.Call raw) asked asks fresh reference is =
-    request_waits rows now keys place caller (request_of setup.key raw) asked asks fresh reference is
+    request_waits rows now keys place caller (request_of setup.key rows raw) asked asks fresh reference is
 deed_waits setup rows now keys past place caller (deed.Finish run ruling) asked asks fresh reference is = absurd (cc)
 deed_waits setup rows now keys past place caller (deed.Park run why) asked asks fresh reference is = absurd (cc)
 deed_waits setup rows now keys past place caller deed.Resume asked asks fresh reference is = absurd (cc)

@@ -80,8 +80,8 @@ no_call_answered error (inl e) = rw e refl
 no_call_answered error (inr (inl e)) = rw e refl
 no_call_answered error (inr (inr e)) = rw e refl
 
-pub reading_answered : (raw : Raw) → IfRefused (reading_of raw)
-reading_answered raw = at (reading_of raw) (reading_refused raw)
+pub reading_answered : (account : ℕ) (raw : Raw) → IfRefused (reading_of account raw)
+reading_answered account raw = at (reading_of account raw) (reading_refused account raw)
   where
     at : (read : Result Call ApiError) → IfErr read IsNoCall → IfRefused read
     at (Ok call) h = tt

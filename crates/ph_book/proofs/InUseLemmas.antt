@@ -55,9 +55,9 @@ call_heard key opens_ rows now place caller (Shows doc) h = cc
 call_heard key opens_ rows now place caller (Sets moment) h = cc
 
 deed_heard : (setup : Setup) (keys : Keys) (past : List Doing) (rows : List Row) (now place caller : ℕ) (d : Deed) (asked : Asked)
-    → deed_asks setup d ≡ Some asked → said_briefly (effect_of setup keys past rows now place caller d).said ≡ Silence → ⊥
+    → deed_asks setup rows d ≡ Some asked → said_briefly (effect_of setup keys past rows now place caller d).said ≡ Silence → ⊥
 deed_heard setup keys past rows now place caller (deed.Call raw) asked asks h =
-    call_heard (key_asked (asked_in (request_of setup.key raw))) (opens keys (asked_in (request_of setup.key raw))) rows now place caller
+    call_heard (key_asked (asked_in (request_of setup.key rows raw))) (opens keys (asked_in (request_of setup.key rows raw))) rows now place caller
     (called_at keys setup.key rows now place raw) h
 deed_heard setup keys past rows now place caller (deed.Finish run ruling) asked asks h = absurd (cc)
 deed_heard setup keys past rows now place caller (deed.Park run why) asked asks h = absurd (cc)

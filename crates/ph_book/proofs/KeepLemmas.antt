@@ -29,7 +29,7 @@ use Rattle.ph_book.specs.declared.calls.SavedOpening.{SavedOpening}
 use Rattle.ph_book.specs.declared.endings.Saving.{Saving}
 use Rattle.ph_book.specs.Called.{IsOpening, IsResuming, asked_if, begun_records, kept_records, opening_weight, record_key, saved_opening_of, saved_records, saving_of, saving_weight}
 use Rattle.ph_book.specs.Entries.{TakesUp, call_entry, finish_entry, park_entry, resume_entry, tick_entry}
-use Rattle.ph_book.specs.History.{Effect, deed_asks, doings_of, effect_to, finish_effect, nothing, past_of, rows_of, said_to, time_of}
+use Rattle.ph_book.specs.History.{Effect, asks_to, doings_of, effect_to, finish_effect, nothing, past_of, rows_of, said_to, time_of}
 use Rattle.ph_book.specs.Legal.{IsAllowed, is_full, saved_weight, weight_of}
 use Rattle.ph_book.specs.Answers.{is_ruled}
 use Rattle.ph_book.specs.Replies.{Said, Replies, Waits, Silence}
@@ -67,7 +67,7 @@ replied setup history records caller raw Silence served steps quiet = absurd ser
 pub enter_keeps : (old : BookState) (setup : Setup) (history : List Entry) (rows : List Row) (time weight : ℕ) (attempts : List flights.Attempt) (records : List KeyRecord) (live place at caller : ℕ) (raw : Raw) (opening : Option SavedOpening) (kept : List KeyRecord)
     → record { setup = setup; history = history } ≡ old → IsBook setup history rows time weight attempts records live → caller < 2 ^ 62
     → is_full old.setup old.history (deed.Call raw) ≡ false → step_of (effect_to old.setup old.history (call_entry caller raw)).doing ≡ None
-    → IsOpening (deed_asks old.setup (deed.Call raw)) (effect_to old.setup old.history (call_entry caller raw)) opening
+    → IsOpening (asks_to old.setup old.history (deed.Call raw)) (effect_to old.setup old.history (call_entry caller raw)) opening
     → place ≡ length history + 1 → at ≡ time → kept ≡ kept_records opening place at records
     → Keeps setup history (call_entry caller raw) kept (opening_weight opening)
 enter_keeps old setup history rows time weight attempts records live place at caller raw opening kept is b below room stepped opens_ placed timed keeps =
@@ -87,7 +87,7 @@ enter_keeps old setup history rows time weight attempts records live place at ca
     saves = effect.saves
 
     asks : Option Asked
-    asks = deed_asks setup (deed.Call raw)
+    asks = asks_to setup history (deed.Call raw)
 
     step_here : step_of effect.doing ≡ None
     step_here = subst (λ (x : BookState). step_of (effect_to x.setup x.history (call_entry caller raw)).doing ≡ None) (sym is) stepped
@@ -113,7 +113,7 @@ enter_keeps old setup history rows time weight attempts records live place at ca
     served = answered.1
 
     opening_is : opening ≡ saved_opening_of (asked_if saves asks) reply
-    opening_is = subst (λ (x : BookState). IsOpening (deed_asks x.setup (deed.Call raw)) (effect_to x.setup x.history (call_entry caller raw)) opening) (sym is) opens_ reply said
+    opening_is = subst (λ (x : BookState). IsOpening (asks_to x.setup x.history (deed.Call raw)) (effect_to x.setup x.history (call_entry caller raw)) opening) (sym is) opens_ reply said
 
     keeps_here : kept ≡ kept_records opening (length history + 1) time records
     keeps_here = keeps ∙ ap (λ (p : ℕ × ℕ). kept_records opening p.0 p.1 records) (λ i. (placed i, timed i))
@@ -123,13 +123,13 @@ pub begin_keeps : (old : BookState) (setup : Setup) (history : List Entry) (rows
     → record { setup = setup; history = history } ≡ old → IsBook setup history rows time weight attempts records live → caller < 2 ^ 62
     → is_full old.setup old.history (deed.Call raw) ≡ false → step_of (effect_to old.setup old.history (call_entry caller raw)).doing ≡ Some (Begins flight)
     → (effect_to old.setup old.history (call_entry caller raw)).said ≡ Waits order
-    → asked ≡ asked_if (effect_to old.setup old.history (call_entry caller raw)).saves (deed_asks old.setup (deed.Call raw))
+    → asked ≡ asked_if (effect_to old.setup old.history (call_entry caller raw)).saves (asks_to old.setup old.history (deed.Call raw))
     → place ≡ length history + 1 → at ≡ time → kept ≡ begun_records asked place at order.reference records
     → Keeps setup history (call_entry caller raw) kept 0
 begin_keeps old setup history rows time weight attempts records live place at caller raw order flight asked kept is b below room stepped waits asks placed timed keeps =
     subst (λ (k : List KeyRecord). Keeps setup history (call_entry caller raw) k 0) (sym keeps_here) (record {
       kept_is = waiting_kept setup history caller raw order b.few b.legal allowed none said
-          ∙ ap (λ (p : ℕ × List KeyRecord). begun_records (asked_if saves (deed_asks setup (deed.Call raw))) (length history + 1) p.0 order.reference p.1) (λ i. (sym b.time_is i, sym b.records_are i))
+          ∙ ap (λ (p : ℕ × List KeyRecord). begun_records (asked_if saves (asks_to setup history (deed.Call raw))) (length history + 1) p.0 order.reference p.1) (λ i. (sym b.time_is i, sym b.records_are i))
           ∙ ap (λ (o : Option Asked). begun_records o (length history + 1) time order.reference records) (sym asked_here);
       well = begun_well asked (length history + 1) time order.reference records b.statuses;
       saved = ap (saved_weight saves) said ∙ waiting_weighs saves order;
@@ -147,8 +147,8 @@ begin_keeps old setup history rows time weight attempts records live place at ca
     said : effect.said ≡ Waits order
     said = subst (λ (x : BookState). (effect_to x.setup x.history (call_entry caller raw)).said ≡ Waits order) (sym is) waits
 
-    asked_here : asked ≡ asked_if saves (deed_asks setup (deed.Call raw))
-    asked_here = subst (λ (x : BookState). asked ≡ asked_if (effect_to x.setup x.history (call_entry caller raw)).saves (deed_asks x.setup (deed.Call raw))) (sym is) asks
+    asked_here : asked ≡ asked_if saves (asks_to setup history (deed.Call raw))
+    asked_here = subst (λ (x : BookState). asked ≡ asked_if (effect_to x.setup x.history (call_entry caller raw)).saves (asks_to x.setup x.history (deed.Call raw))) (sym is) asks
 
     allowed : IsAllowed setup (past_of setup history) (call_entry caller raw)
     allowed = may_come setup history caller (deed.Call raw) below tt tt

@@ -4,6 +4,7 @@ use Rattle.std.specs.List.{fold}
 use Rattle.std.proofs.lemmas.Bool.Decides.{nat_tests}
 use Rattle.std.proofs.lemmas.List.{append_assoc}
 use Rattle.std.proofs.lemmas.List.Sums.{fold-append}
+use Rattle.ph_rows.specs.declared.rows.Row.{Row}
 use Rattle.ph_doings.specs.Doings.{Doing, Leaves, Puts, Edits, Begins, Resumes, Parks, Settles}
 use Rattle.ph_doings.specs.Lawful.{MayDo}
 use Rattle.ph_doings.specs.RecordLaws.{OpensRecord}
@@ -18,7 +19,7 @@ use Rattle.ph_idem.specs.Laws.{AreTold, TellsIf}
 use Rattle.ph_idem.proofs.FoundLemmas.{over_alike}
 use Rattle.ph_book.specs.declared.setup.Setup.{Setup}
 use Rattle.ph_book.specs.declared.acts.Entry.{Entry}
-use Rattle.ph_book.specs.History.{Happening, and_then, deed_asks, doings_after, effect_after, effect_to, happening_of, keys_after, past_of, reply_at, rows_after, said_briefly, saids_after, time_after, turn_of, turns_after}
+use Rattle.ph_book.specs.History.{Happening, and_then, asks_after, doings_after, effect_after, effect_to, happening_of, keys_after, past_of, reply_at, rows_after, said_briefly, saids_after, time_after, opening_row, turn_after, turn_of, turns_after, turns_from}
 use Rattle.ph_book.specs.History as history
 use Rattle.ph_book.specs.Replies.{Said}
 use Rattle.ph_idem.proofs.OpenLemmas.{length_doings}
@@ -33,23 +34,23 @@ use Rattle.ph_book.proofs.WaitLemmas.{AreWaited, WaitsIf, fresh_over, over_fresh
 -- ---- turns of what happened
 
 -- the time after the turns is that of what happened
-turns_time : (setup : Setup) (turns : List (Turn Asked)) (past : List Happening)
-    → time_of setup.opened (fold (λ (all : List (Turn Asked)) (h : Happening). turn_of setup h ∷ all) turns past)
-    ≡ fold (λ (now : ℕ) (h : Happening). h.now) (time_of setup.opened turns) past
-turns_time setup turns [] = refl
-turns_time setup turns (h ∷ past) = turns_time setup (turn_of setup h ∷ turns) past
+turns_time : (setup : Setup) (rows : List Row) (turns : List (Turn Asked)) (past : List Happening)
+    → time_of setup.opened (turns_from setup rows turns past) ≡ fold (λ (now : ℕ) (h : Happening). h.now) (time_of setup.opened turns) past
+turns_time setup rows turns [] = refl
+turns_time setup rows turns (h ∷ past) = turns_time setup (rows ++ h.rows) (turn_of setup rows h ∷ turns) past
 
 pub turn_time : (setup : Setup) (past : List Happening) → time_of setup.opened (turns_after setup past) ≡ time_after setup past
-turn_time setup past = turns_time setup [] past
+turn_time setup past = turns_time setup (opening_row setup.opened ∷ []) [] past
 
 -- each happening is a turn
-turns_count : (setup : Setup) (turns : List (Turn Asked)) (past : List Happening)
-    → length (fold (λ (all : List (Turn Asked)) (h : Happening). turn_of setup h ∷ all) turns past) ≡ length turns + length past
-turns_count setup turns [] = omega arith
-turns_count setup turns (h ∷ past) = let rest = turns_count setup (turn_of setup h ∷ turns) past in omega (arith, rest)
+turns_count : (setup : Setup) (rows : List Row) (turns : List (Turn Asked)) (past : List Happening)
+    → length (turns_from setup rows turns past) ≡ length turns + length past
+turns_count setup rows turns [] = omega arith
+turns_count setup rows turns (h ∷ past) =
+    let rest = turns_count setup (rows ++ h.rows) (turn_of setup rows h ∷ turns) past in omega (arith, rest)
 
 pub turn_count : (setup : Setup) (past : List Happening) → length (turns_after setup past) ≡ length past
-turn_count setup past = let all = turns_count setup [] past in omega (arith, all)
+turn_count setup past = let all = turns_count setup (opening_row setup.opened ∷ []) [] past in omega (arith, all)
 
 -- ---- each turn may come, and is told
 
@@ -59,7 +60,7 @@ pub record HasTurned (setup : Setup) (past : List Happening) : Type 0 where
   pub waited : AreWaited setup.opened (turns_after setup past)
 
 turn_may : (setup : Setup) (past : List Happening) (entry : Entry) → HasStood setup past → IsAllowed setup past entry
-    → MayTurn has_key is_like setup.opened (turns_after setup past) (turn_of setup (happening_of setup past entry))
+    → MayTurn has_key is_like setup.opened (turns_after setup past) (turn_after setup past entry)
 turn_may setup past entry stood allowed =
     let comes = comes_next setup past entry stood allowed in
     record {
@@ -70,11 +71,11 @@ turn_may setup past entry stood allowed =
     }
 
 turn_told : (setup : Setup) (past : List Happening) (entry : Entry) → HasStood setup past
-    → TellsIf (opening_of setup.opened (turns_after setup past) (deed_asks setup entry.deed)) (said_briefly (effect_after setup past entry).said)
+    → TellsIf (opening_of setup.opened (turns_after setup past) (asks_after setup past entry.deed)) (said_briefly (effect_after setup past entry).said)
     (effect_after setup past entry).doing
-turn_told setup past entry stood = at (deed_asks setup entry.deed) refl
+turn_told setup past entry stood = at (asks_after setup past entry.deed) refl
   where
-    over : (asked : Asked) → deed_asks setup entry.deed ≡ Some asked → (fresh : Bool)
+    over : (asked : Asked) → asks_after setup past entry.deed ≡ Some asked → (fresh : Bool)
         → is_over (last_opened (has_key asked) (is_like asked) setup.opened (turns_after setup past)) (time_of setup.opened (turns_after setup past)) ≡ fresh
         → TellsIf (if fresh then (record { asked = asked; place = suc (length (turns_after setup past)); moment = time_of setup.opened (turns_after setup past) }) ∷ [] else [])
         (said_briefly (effect_after setup past entry).said) (effect_after setup past entry).doing
@@ -83,18 +84,18 @@ turn_told setup past entry stood = at (deed_asks setup entry.deed) refl
         (over_fresh (turns_after setup past) (time_of setup.opened (turns_after setup past)) _ e)
     over asked asks false e = tt
 
-    at : (asked : Option Asked) → deed_asks setup entry.deed ≡ asked
+    at : (asked : Option Asked) → asks_after setup past entry.deed ≡ asked
         → TellsIf (opening_of setup.opened (turns_after setup past) asked) (said_briefly (effect_after setup past entry).said) (effect_after setup past entry).doing
     at None asks = tt
     at (Some asked) asks =
         over asked asks (is_over (last_opened (has_key asked) (is_like asked) setup.opened (turns_after setup past)) (time_of setup.opened (turns_after setup past))) refl
 
 turn_waits : (setup : Setup) (past : List Happening) (entry : Entry)
-    → WaitsIf (opening_of setup.opened (turns_after setup past) (deed_asks setup entry.deed)) (said_briefly (effect_after setup past entry).said)
+    → WaitsIf (opening_of setup.opened (turns_after setup past) (asks_after setup past entry.deed)) (said_briefly (effect_after setup past entry).said)
     (effect_after setup past entry).doing
-turn_waits setup past entry = at (deed_asks setup entry.deed) refl
+turn_waits setup past entry = at (asks_after setup past entry.deed) refl
   where
-    over : (asked : Asked) → deed_asks setup entry.deed ≡ Some asked → (fresh : Bool)
+    over : (asked : Asked) → asks_after setup past entry.deed ≡ Some asked → (fresh : Bool)
         → is_over (last_opened (has_key asked) (is_like asked) setup.opened (turns_after setup past)) (time_of setup.opened (turns_after setup past)) ≡ fresh
         → WaitsIf (if fresh then (record { asked = asked; place = suc (length (turns_after setup past)); moment = time_of setup.opened (turns_after setup past) }) ∷ [] else [])
         (said_briefly (effect_after setup past entry).said) (effect_after setup past entry).doing
@@ -103,7 +104,7 @@ turn_waits setup past entry = at (deed_asks setup entry.deed) refl
         (over_fresh (turns_after setup past) (time_of setup.opened (turns_after setup past)) _ e)
     over asked asks false e = tt
 
-    at : (asked : Option Asked) → deed_asks setup entry.deed ≡ asked
+    at : (asked : Option Asked) → asks_after setup past entry.deed ≡ asked
         → WaitsIf (opening_of setup.opened (turns_after setup past) asked) (said_briefly (effect_after setup past entry).said) (effect_after setup past entry).doing
     at None asks = tt
     at (Some asked) asks =
@@ -113,7 +114,7 @@ pub turned_more : (setup : Setup) (past : List Happening) (entry : Entry) → Ha
     → HasTurned setup (and_then setup past entry)
 turned_more setup past entry stood allowed turned =
     let h : Happening = happening_of setup past entry in
-    let more : turns_after setup (and_then setup past entry) ≡ turn_of setup h ∷ turns_after setup past = turns_more setup past h in
+    let more : turns_after setup (and_then setup past entry) ≡ turn_of setup (rows_after setup past) h ∷ turns_after setup past = turns_more setup past h in
     record {
       lawful = subst (AreLawful has_key is_like setup.opened) (sym more) (turn_may setup past entry stood allowed, turned.lawful);
       told = subst (AreTold setup.opened) (sym more) (turn_told setup past entry stood, turned.told);
@@ -145,9 +146,9 @@ later_from setup past (entry ∷ entries) =
     let rest : Later setup (and_then setup past entry) (fold (and_then setup) (and_then setup past entry) entries) =
     later_from setup (and_then setup past entry) entries in
     record {
-      more = rest.more ++ turn_of setup (happening_of setup past entry) ∷ [];
+      more = rest.more ++ turn_after setup past entry ∷ [];
       turns_are = rest.turns_are ∙ ap (λ (turns : List (Turn Asked)). rest.more ++ turns) (turns_more setup past (happening_of setup past entry))
-          ∙ sym (append_assoc rest.more (turn_of setup (happening_of setup past entry) ∷ []) (turns_after setup past));
+          ∙ sym (append_assoc rest.more (turn_after setup past entry ∷ []) (turns_after setup past));
     }
 
 -- what happened in a history, and after it
@@ -162,7 +163,7 @@ turns_apart setup before later =
 -- with the entry between them
 pub record Around (setup : Setup) (past next : List Happening) (entry : Entry) : Type 0 where
   pub more : List (Turn Asked)
-  pub turns_are : turns_after setup next ≡ more ++ turn_of setup (happening_of setup past entry) ∷ turns_after setup past
+  pub turns_are : turns_after setup next ≡ more ++ turn_after setup past entry ∷ turns_after setup past
 
 pub turns_around : (setup : Setup) (before later : List Entry) (entry : Entry)
     → Around setup (past_of setup before) (past_of setup (before ++ entry ∷ later)) entry
@@ -176,9 +177,9 @@ turns_around setup before later entry =
     }
 
 -- an entry whose key is free opens a record for every call under that key
-pub opens_for : (setup : Setup) (past : List Happening) (entry : Entry) (first asked : Asked) → deed_asks setup entry.deed ≡ Some first
+pub opens_for : (setup : Setup) (past : List Happening) (entry : Entry) (first asked : Asked) → asks_after setup past entry.deed ≡ Some first
     → (keys_after setup past).found first ≡ Fresh → has_key asked first ≡ true
-    → OpensRecord (has_key asked) (is_like asked) setup.opened (turns_after setup past) (turn_of setup (happening_of setup past entry)) first
+    → OpensRecord (has_key asked) (is_like asked) setup.opened (turns_after setup past) (turn_after setup past entry) first
 opens_for setup past entry first asked asks free same = record {
   asked_is = asks;
   key = same;
@@ -268,7 +269,7 @@ unfolding keys_of turns_of history.time_of
 repeat_finds setup small before later opener first asked legal opens same like soon =
     let around = turns_around setup before later opener in
     let turned = legal_turned setup (before ++ opener ∷ later) small legal in
-    let turn : Turn Asked = turn_of setup (happening_of setup (past_of setup before) opener) in
+    let turn : Turn Asked = turn_after setup (past_of setup before) opener in
     let older : List (Turn Asked) = turns_after setup (past_of setup before) in
     let lawful : AreLawful has_key is_like setup.opened (around.more ++ turn ∷ older) =
     subst (AreLawful has_key is_like setup.opened) around.turns_are turned.lawful in
@@ -305,8 +306,8 @@ key_adds_none setup small before later opener entry first asked legal opens same
     let around = turns_around setup before later opener in
     let past : List Happening = past_of setup (before ++ opener ∷ later) in
     let turned = legal_turned setup ((before ++ opener ∷ later) ++ entry ∷ []) small legal in
-    let turn : Turn Asked = turn_of setup (happening_of setup (past_of setup before) opener) in
-    let last : Turn Asked = turn_of setup (happening_of setup past entry) in
+    let turn : Turn Asked = turn_after setup (past_of setup before) opener in
+    let last : Turn Asked = turn_after setup past entry in
     let older : List (Turn Asked) = turns_after setup (past_of setup before) in
     let all : turns_after setup (past_of setup ((before ++ opener ∷ later) ++ entry ∷ [])) ≡ last ∷ around.more ++ turn ∷ older =
     ap (turns_after setup) (past_more setup (before ++ opener ∷ later) entry) ∙ turns_more setup past (happening_of setup past entry)

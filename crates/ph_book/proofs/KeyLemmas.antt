@@ -1,7 +1,8 @@
 -- What is known of keys after what happened.
 use Rattle.std.proofs.Common.{◌≡◌, ℕ, ◌+◌, ◌++◌, ◌∷◌, ◌==◌, nat_le, Bool, true, false, if◌then◌else◌, List, [], Option, Some, None, refl, sym, ap, ◌∙◌, subst}
-use Rattle.std.specs.List.{fold}
-use Rattle.std.proofs.lemmas.List.Sums.{fold-append}
+use Rattle.std.specs.List.{flat_map, fold}
+use Rattle.std.proofs.lemmas.List.{append-nil, append_assoc}
+use Rattle.ph_rows.specs.declared.rows.Row.{Row}
 use Rattle.ph_doings.specs.Doings.{Doing}
 use Rattle.ph_doings.specs.Records.{Fresh, Differs, Parked, Opened, Never, Opens, Said, Replies, Silence, Waits, Turn, a_day, doings_of, found_in, last_opened, result_of_attempt, result_said, said_at, time_of}
 use Rattle.ph_doings.specs.Standings.{Standing, NotBegun, Stands, standing_of}
@@ -13,7 +14,7 @@ use Rattle.ph_book.specs.declared.setup.Setup.{Setup}
 use Rattle.ph_book.specs.declared.acts.Deed.{Deed}
 use Rattle.ph_book.specs.declared.acts.Deed.TheVariants as deed
 use Rattle.ph_book.specs.Calls.{key_asked}
-use Rattle.ph_book.specs.History.{Happening, deed_asks, doings_after, key_after, key_of_attempt, keys_after, turn_of, turns_after}
+use Rattle.ph_book.specs.History.{Happening, deed_asks, doings_after, key_after, key_of_attempt, keys_after, opening_row, rows_after, turn_of, turns_after, turns_from}
 use Rattle.ph_book.proofs.CallLemmas.{IsText, judged_text}
 use Rattle.ph_book.proofs.ErrorLemmas.{chosen}
 use Rattle.ph_book.proofs.EffectLemmas.{AreText, KnowsParked, StandsParked}
@@ -47,17 +48,26 @@ found_parked past now reference (Opens place same moment) h = at (nat_le (moment
     at false true h = said_parked (doings_of past) place reference (said_at past place) h
 
 -- what was done is what the turns did
-turns_did : (setup : Setup) (turns : List (Turn Asked)) (past : List Happening)
-    → doings_of (fold (λ (all : List (Turn Asked)) (h : Happening). turn_of setup h ∷ all) turns past)
-    ≡ fold (λ (doings : List Doing) (h : Happening). h.doing ∷ doings) (doings_of turns) past
-turns_did setup turns [] = refl
-turns_did setup turns (h ∷ past) = turns_did setup (turn_of setup h ∷ turns) past
+turns_did : (setup : Setup) (rows : List Row) (turns : List (Turn Asked)) (past : List Happening)
+    → doings_of (turns_from setup rows turns past) ≡ fold (λ (doings : List Doing) (h : Happening). h.doing ∷ doings) (doings_of turns) past
+turns_did setup rows turns [] = refl
+turns_did setup rows turns (h ∷ past) = turns_did setup (rows ++ h.rows) (turn_of setup rows h ∷ turns) past
 
 pub turn_doings : (setup : Setup) (past : List Happening) → doings_of (turns_after setup past) ≡ doings_after past
-turn_doings setup past = turns_did setup [] past
+turn_doings setup past = turns_did setup (opening_row setup.opened ∷ []) [] past
 
-pub turns_more : (setup : Setup) (past : List Happening) (h : Happening) → turns_after setup (past ++ h ∷ []) ≡ turn_of setup h ∷ turns_after setup past
-turns_more setup past h = fold-append (λ (all : List (Turn Asked)) (x : Happening). turn_of setup x ∷ all) [] past (h ∷ [])
+-- the turn of one happening more is over the rows of those before it
+turns_push : (setup : Setup) (rows : List Row) (turns : List (Turn Asked)) (past : List Happening) (h : Happening)
+    → turns_from setup rows turns (past ++ h ∷ []) ≡ turn_of setup (rows ++ flat_map (λ (x : Happening). x.rows) past) h ∷ turns_from setup rows turns past
+turns_push setup rows turns [] h = ap (λ (all : List Row). turn_of setup all h ∷ turns) (sym (append-nil rows))
+turns_push setup rows turns (x ∷ past) h =
+    turns_push setup (rows ++ x.rows) (turn_of setup rows x ∷ turns) past h
+    ∙ ap (λ (all : List Row). turn_of setup all h ∷ turns_from setup (rows ++ x.rows) (turn_of setup rows x ∷ turns) past)
+    (append_assoc rows x.rows (flat_map (λ (y : Happening). y.rows) past))
+
+pub turns_more : (setup : Setup) (past : List Happening) (h : Happening)
+    → turns_after setup (past ++ h ∷ []) ≡ turn_of setup (rows_after setup past) h ∷ turns_after setup past
+turns_more setup past h = turns_push setup (opening_row setup.opened ∷ []) [] past h
 
 -- where a call finds that its attempt is parked, that stands so
 pub knows_parked : (setup : Setup) (past : List Happening) → KnowsParked (keys_after setup past) (doings_after past)
@@ -68,21 +78,22 @@ knows_parked setup past asked reference is =
 -- ---- keys are text
 
 -- what a deed asks is under a key that is text
-deed_text : (setup : Setup) (d : Deed) → IsText (key_asked (deed_asks setup d))
-deed_text setup (deed.Call raw) = judged_text setup.key raw
-deed_text setup (deed.Finish run ruling) = refl
-deed_text setup (deed.Park run why) = refl
-deed_text setup deed.Resume = refl
-deed_text setup (deed.Tick moment) = refl
+deed_text : (setup : Setup) (rows : List Row) (d : Deed) → IsText (key_asked (deed_asks setup rows d))
+deed_text setup rows (deed.Call raw) = judged_text setup.key rows raw
+deed_text setup rows (deed.Finish run ruling) = refl
+deed_text setup rows (deed.Park run why) = refl
+deed_text setup rows deed.Resume = refl
+deed_text setup rows (deed.Tick moment) = refl
 
 abbrev pub AskText : List (Turn Asked) → Type 0
 AskText [] = Unit {0}
 AskText (turn ∷ past) = IsText (key_asked turn.asked) × AskText past
 
-turns_text : (setup : Setup) (turns : List (Turn Asked)) (past : List Happening) → AskText turns
-    → AskText (fold (λ (all : List (Turn Asked)) (h : Happening). turn_of setup h ∷ all) turns past)
-turns_text setup turns [] text = text
-turns_text setup turns (h ∷ past) text = turns_text setup (turn_of setup h ∷ turns) past (deed_text setup h.entry.deed, text)
+turns_text : (setup : Setup) (rows : List Row) (turns : List (Turn Asked)) (past : List Happening) → AskText turns
+    → AskText (turns_from setup rows turns past)
+turns_text setup rows turns [] text = text
+turns_text setup rows turns (h ∷ past) text =
+    turns_text setup (rows ++ h.rows) (turn_of setup rows h ∷ turns) past (deed_text setup rows h.entry.deed, text)
 
 -- so is the key of the call that began an attempt
 key_text : (past : List (Turn Asked)) (reference : ℕ) → AskText past → IsText (key_of_attempt past reference)
@@ -94,4 +105,4 @@ key_text (turn ∷ past) reference text = at (begun_by turn.doing) (key_text pas
     at (Some begun) old = chosen IsText (reference == begun) (key_asked turn.asked) (key_of_attempt past reference) text.0 old
 
 pub keys_text : (setup : Setup) (past : List Happening) → AreText (keys_after setup past)
-keys_text setup past reference = key_text (turns_after setup past) reference (turns_text setup [] past tt)
+keys_text setup past reference = key_text (turns_after setup past) reference (turns_text setup (opening_row setup.opened ∷ []) [] past tt)

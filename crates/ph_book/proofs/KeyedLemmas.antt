@@ -82,22 +82,22 @@ serves_saved keys rows records (found.Saved place) there entry serves is =
 
 -- what it comes to
 pub judged_effect : (setup : Setup) (keys : Keys) (key : List ℕ) (rows : List Row) (now place caller : ℕ) (raw : Raw) (judged : Judged) → setup.key ≡ key
-    → judged ≡ request_of key raw
+    → judged ≡ request_of key rows raw
     → call_effect (key_asked (asked_in judged)) (opens keys (asked_in judged)) rows now place caller (request_upshot keys rows now (empty_batch (length rows) now place) judged)
-    ≡ request_effect setup keys rows now place caller raw (asked_in (request_of key raw))
+    ≡ request_effect setup keys rows now place caller raw (asked_in (request_of key rows raw))
 unfolding called_at
 judged_effect setup keys key rows now place caller raw judged same is =
     ap (λ (j : Judged). call_effect (key_asked (asked_in j)) (opens keys (asked_in j)) rows now place caller (request_upshot keys rows now (empty_batch (length rows) now place) j)) is
-    ∙ ap (λ (k : List ℕ). call_effect (key_asked (asked_in (request_of key raw))) (opens keys (asked_in (request_of key raw))) rows now place caller
-    (request_upshot keys rows now (empty_batch (length rows) now place) (request_of k raw))) (sym same)
+    ∙ ap (λ (k : List ℕ). call_effect (key_asked (asked_in (request_of key rows raw))) (opens keys (asked_in (request_of key rows raw))) rows now place caller
+    (request_upshot keys rows now (empty_batch (length rows) now place) (request_of k rows raw))) (sym same)
 
 -- so what is made of it is what it comes to
 pub judged_called : (setup : Setup) (keys : Keys) (key : List ℕ) (rows : List Row) (now place caller : ℕ) (raw : Raw) (judged : Judged) (made : Result Called NoMemory) → setup.key ≡ key
-    → judged ≡ request_of key raw
+    → judged ≡ request_of key rows raw
     → IfOk made (λ called. IsCalled rows now place caller (asked_in judged) (asked_if (opens keys (asked_in judged)) (asked_in judged))
     (call_effect (key_asked (asked_in judged)) (opens keys (asked_in judged)) rows now place caller (request_upshot keys rows now (empty_batch (length rows) now place) judged)) called)
-    → IfOk made (λ called. IsCalled rows now place caller (asked_in (request_of key raw)) (asked_if (opens keys (asked_in (request_of key raw))) (asked_in (request_of key raw)))
-    (request_effect setup keys rows now place caller raw (asked_in (request_of key raw))) called)
+    → IfOk made (λ called. IsCalled rows now place caller (asked_in (request_of key rows raw)) (asked_if (opens keys (asked_in (request_of key rows raw))) (asked_in (request_of key rows raw)))
+    (request_effect setup keys rows now place caller raw (asked_in (request_of key rows raw))) called)
 judged_called setup keys key rows now place caller raw judged made same is comes =
     let effect = judged_effect setup keys key rows now place caller raw judged same is in
     subst (λ (p : Judged × Effect). IfOk made (λ called. IsCalled rows now place caller (asked_in p.0) (asked_if (opens keys (asked_in p.0)) (asked_in p.0)) p.1 called))

@@ -1,10 +1,12 @@
 -- The laws of money, of sound rows.
-use Rattle.std.proofs.Common.{◌≡◌, ℕ, ◌+◌, ◌≤◌, ◌∷◌, Option, None, Some, Bool, true, false, cond, nat_le, nat_lt, List, [], refl, sym, ap, subst, arith, ℤ, pos, ◌+ℤ◌, ◌≤ℤ◌}
+use Rattle.std.proofs.Common.{◌≡◌, ℕ, ◌+◌, ◌≤◌, ◌∷◌, Option, None, Some, Bool, true, false, cond, nat_le, nat_lt, List, [], refl, sym, ap, ◌∙◌, subst, arith, ℤ, pos, ◌+ℤ◌, ◌≤ℤ◌}
 use Rattle.std.specs.List.{filter}
 use Rattle.std.proofs.lemmas.Bool.Decides.{nat_tests}
 use Rattle.std.proofs.lemmas.Int.{ints}
 use Rattle.std.specs.Prelude.{option_and_then}
 use Rattle.ph_items.specs.declared.charges.Charge.{Charge}
+use Rattle.ph_items.specs.declared.disputes.DisputeStatus.{DisputeStatus}
+use Rattle.ph_items.specs.declared.disputes.DisputeStatus.TheVariants as dispute_status
 use Rattle.ph_items.specs.declared.intents.Intent.{Intent}
 use Rattle.ph_items.specs.declared.items.Item.TheVariants as item
 use Rattle.ph_items.specs.Items.{charge_in}
@@ -14,13 +16,13 @@ use Rattle.ph_rows.specs.Rows.{latest_of}
 use Rattle.ph_items.specs.Movements.{counts}
 use Rattle.ph_rows.specs.Balances.{movements_of, net_of}
 use Rattle.ph_facts.specs.Sound.{IsSound}
-use Rattle.ph_facts.specs.Amounts.{captured, captured_of, moved, moves_in, refunded, refunded_of}
+use Rattle.ph_facts.specs.Amounts.{Move, captured, captured_of, moved, moves_in, refunded, refunded_of}
 use Rattle.ph_facts.proofs.OrderLemmas.{amounts_stand}
 use Rattle.ph_facts.proofs.PresentLemmas.{charge_found}
 use Rattle.ph_facts.proofs.SoundLemmas.{latest_of_sound}
 use Rattle.ph_facts.specs.Held.{Holds, IsHeldBy, charge_of}
 use Rattle.ph_rows.specs.Views.{ViewState}
-use Rattle.ph_book.specs.Laws.{AmountsAreSums, BalancesAreSums, IsLeftOf, DisputesMoveOnce, RefundsFit}
+use Rattle.ph_book.specs.Laws.{AmountsAreSums, BalancesAreSums, IsLeftOf, DisputesMoveOnce, RefundsFit, amount_of, taken_in}
 
 -- what counts at a time and what doesn't are all
 net_parts : (time : ℕ) (movements : List Movement)
@@ -73,12 +75,25 @@ held_left state sound object intent (Some number) same held = at (charge_of stat
     at None e h = absurd h
     at (Some charge) e h = in_row charge e h (latest_of number state.rows) refl e
 
--- the present versions of charges and of payment intents say their amounts
+pub sound_disputes : (state : ViewState) → IsSound state → DisputesMoveOnce state.rows
+sound_disputes state sound object row dispute found is =
+    sym (sound.laws.moved object row (moves_in dispute.status dispute.amount) found (ap moved.said is))
+
+-- the transactions of a dispute take together what it has taken
+moves_take : (found : DisputeStatus) (amount : ℕ) → amount_of (moves_in found amount) +ℤ taken_in found amount ≡ pos 0
+moves_take dispute_status.NeedsResponse amount = omega (arith, ints)
+moves_take dispute_status.UnderReview amount = omega (arith, ints)
+moves_take dispute_status.Won amount = omega (arith, ints)
+moves_take dispute_status.Lost amount = omega (arith, ints)
+
+-- the present versions of charges, payment intents and disputes say their amounts
 pub sound_amounts : (state : ViewState) → IsSound state → AmountsAreSums state.rows
 sound_amounts state sound = record {
   captured = λ object row charge found is. sound.laws.captured object row (pos charge.amount_captured) found (ap captured.said is);
   refunded = λ object row charge found is. sound.laws.refunded object row charge.amount_refunded found (ap refunded.said is);
   capturable = λ object row intent found is waits. held_left state sound object intent intent.latest_charge refl (sound.laws.held object row intent found is waits);
+  disputed = λ object row dispute found is. ap (λ (moves : List Move). amount_of moves +ℤ taken_in dispute.status dispute.amount)
+      (sound_disputes state sound object row dispute found is) ∙ moves_take dispute.status dispute.amount;
 }
 
 pub sound_refunds : (state : ViewState) → IsSound state → RefundsFit state.rows
@@ -91,7 +106,3 @@ sound_refunds state sound object row charge found is =
   where
     least : {a b : ℕ} → a ≤ b → pos a ≤ℤ pos b
     least h = omega (arith, ints)
-
-pub sound_disputes : (state : ViewState) → IsSound state → DisputesMoveOnce state.rows
-sound_disputes state sound object row dispute found is =
-    sym (sound.laws.moved object row (moves_in dispute.status dispute.amount) found (ap moved.said is))

@@ -9,7 +9,7 @@ use Rattle.ph_idem.specs.Laws.{AreTold, after_turn}
 use Rattle.ph_idem.proofs.KeptLemmas.{records_are_kept}
 use Rattle.ph_book.specs.declared.setup.Setup.{Setup}
 use Rattle.ph_book.specs.declared.acts.Entry.{Entry}
-use Rattle.ph_book.specs.History.{Happening, and_then, happening_of, past_of, reply_at, saids_after, turn_of, turns_after}
+use Rattle.ph_book.specs.History.{Happening, and_then, happening_of, past_of, reply_at, rows_after, saids_after, turn_after, turn_of, turns_after}
 use Rattle.ph_book.specs.Legal.{IsAllowed, IsLegal}
 use Rattle.ph_book.specs.State.{records_of}
 use Rattle.ph_book.proofs.HistoryLemmas.{past_more}
@@ -48,7 +48,7 @@ pub records_more : (setup : Setup) (history : List Entry) (entry : Entry) → se
     → IsAllowed setup (past_of setup history) entry
     → records_of setup (history ++ entry ∷ [])
     ≡ after_turn (reply_at (saids_after (and_then setup (past_of setup history) entry))) setup.opened (turns_after setup (past_of setup history))
-    (turn_of setup (happening_of setup (past_of setup history) entry)) (records_of setup history)
+    (turn_after setup (past_of setup history) entry) (records_of setup history)
 unfolding records_of
 records_more setup history entry small legal allowed =
     let past : List Happening = past_of setup history in
@@ -56,12 +56,12 @@ records_more setup history entry small legal allowed =
     let h : Happening = happening_of setup past entry in
     let stood = legal_stands setup history small legal in
     let turned : HasTurned setup next = turned_more setup past entry stood allowed (legal_turned setup history small legal) in
-    let turns : turns_after setup next ≡ turn_of setup h ∷ turns_after setup past = turns_more setup past h in
+    let turns : turns_after setup next ≡ turn_of setup (rows_after setup past) h ∷ turns_after setup past = turns_more setup past h in
     let reply : ℕ → Reply = reply_at (saids_after next) in
     ap (λ (p : List Happening). records_after (reply_at (saids_after p)) setup.opened (turns_after setup p)) (past_more setup history entry)
     ∙ ap (records_after reply setup.opened) turns
-    ∙ records_are_kept reply setup.opened (turns_after setup past) (turn_of setup h)
+    ∙ records_are_kept reply setup.opened (turns_after setup past) (turn_of setup (rows_after setup past) h)
     (subst (AreLawful has_key is_like setup.opened) turns turned.lawful) (subst (AreTold setup.opened) turns turned.told)
-    ∙ ap (after_turn reply setup.opened (turns_after setup past) (turn_of setup h))
+    ∙ ap (after_turn reply setup.opened (turns_after setup past) (turn_of setup (rows_after setup past) h))
     (records_same reply (reply_at (saids_after past)) setup.opened (turns_after setup past)
     (λ place le. said_from setup past (entry ∷ []) place (let count = turn_count setup past in omega (arith, le, count))))

@@ -88,19 +88,20 @@ AnswersSaved (Sets moment) = Unit {0}
 clock_saved : (now moment : ℕ) → AnswersSaved (clock_set now moment)
 clock_saved now moment = chosen AnswersSaved (nat_lt moment now) (Makes (Refuses (error_of ClockBackwards))) (Sets moment) tt tt
 
-carried_saved : (rows : List Row) (now : ℕ) (c : Call) (batch : BatchState) → AnswersSaved (carried rows now c batch)
-carried_saved rows now (call.CreateIntent c) batch = tt
-carried_saved rows now (call.UpdateIntent c) batch = tt
-carried_saved rows now (call.ConfirmIntent c) batch = tt
-carried_saved rows now (call.CaptureIntent c) batch = tt
-carried_saved rows now (call.CancelIntent c) batch = tt
-carried_saved rows now (call.CreateRefund c) batch = tt
-carried_saved rows now (call.SendEvidence c) batch = tt
-carried_saved rows now (call.CloseDispute c) batch = tt
-carried_saved rows now (call.GetBalance c) batch = tt
-carried_saved rows now (call.Retrieve c) batch = tt
-carried_saved rows now (call.SetClock c) batch = clock_saved now c.now
-carried_saved rows now (call.Authenticate c) batch = tt
+carried_saved : (rows : List Row) (account now : ℕ) (c : Call) (batch : BatchState) → AnswersSaved (carried rows account now c batch)
+carried_saved rows account now (call.CreateIntent c) batch = tt
+carried_saved rows account now (call.UpdateIntent c) batch = tt
+carried_saved rows account now (call.ConfirmIntent c) batch = tt
+carried_saved rows account now (call.CaptureIntent c) batch = tt
+carried_saved rows account now (call.CancelIntent c) batch = tt
+carried_saved rows account now (call.CreateRefund c) batch = tt
+carried_saved rows account now (call.SendEvidence c) batch = tt
+carried_saved rows account now (call.CloseDispute c) batch = tt
+carried_saved rows account now (call.GetBalance c) batch = tt
+carried_saved rows account now (call.CreateAccount c) batch = tt
+carried_saved rows account now (call.Retrieve c) batch = tt
+carried_saved rows account now (call.SetClock c) batch = clock_saved now c.now
+carried_saved rows account now (call.Authenticate c) batch = tt
 
 shown_served : (now : ℕ) (rows : List Row) (object : ℕ) (batch : BatchState) (order : Option Order)
     → IsServedOrWaits (shown_or_waits now rows object batch order)
@@ -142,12 +143,12 @@ request_served : (state : ViewState) (keys : Keys) (place caller : ℕ) (judged 
     → IsServedOrWaits (call_effect (key_asked (asked_in judged)) (opens keys (asked_in judged)) state.rows state.time place caller
     (request_upshot keys state.rows state.time (batch_after state place) judged)).said
 request_served state keys place caller (Refused error) ready keeps served = keeps
-request_served state keys place caller (Accepted c None) ready keeps served =
-    call_served state None false place caller (carried state.rows state.time c (batch_after state place)) (carried_keeps state place c ready keeps)
-    (carried_saved state.rows state.time c (batch_after state place))
-request_served state keys place caller (Accepted c (Some asked)) ready keeps served =
-    found_served state keys place caller (carried state.rows state.time c (batch_after state place)) asked (batch_after state place)
-    (carried_keeps state place c ready keeps) (carried_saved state.rows state.time c (batch_after state place)) served (keys.found asked) refl
+request_served state keys place caller (Accepted account c None) ready keeps served =
+    call_served state None false place caller (carried state.rows account state.time c (batch_after state place)) (carried_keeps state place account c ready keeps)
+    (carried_saved state.rows account state.time c (batch_after state place))
+request_served state keys place caller (Accepted account c (Some asked)) ready keeps served =
+    found_served state keys place caller (carried state.rows account state.time c (batch_after state place)) asked (batch_after state place)
+    (carried_keeps state place account c ready keeps) (carried_saved state.rows account state.time c (batch_after state place)) served (keys.found asked) refl
 
 -- ---- rulings
 
@@ -269,7 +270,7 @@ said_to_call setup history records caller raw few legal kept well =
     let past = past_of setup history in
     let keys = keys_after setup past in
     let serve = records_serve setup past stood in
-    request_served (view_after setup past) keys (length past + 1) caller (request_of setup.key raw) stood.stands.ready (judged_keeps setup.key raw)
+    request_served (view_after setup past) keys (length past + 1) caller (request_of setup.key (rows_after setup past) raw) stood.stands.ready (judged_keeps setup.key (rows_after setup past) raw)
     (λ asked place is.
     let there = subst (λ (what : Found). ServesFound keys (rows_after setup past) (records_after (reply_at (saids_after past)) setup.opened (turns_after setup past)) what
     (found_in asked.account asked.key asked.shape (time_after setup past) (records_after (reply_at (saids_after past)) setup.opened (turns_after setup past)))) is (serve asked) in

@@ -39,7 +39,7 @@ use Rattle.ph_book.specs.Called.{asked_if, begun_records, kept_records, opening_
 use Rattle.ph_book.specs.Called as called
 use Rattle.ph_book.specs.Calls.{Keys, Upshot, Rejects, Replays, Makes, Shows, Sets, by_found, called_at, carried, is_fresh, key_asked, opens, request_upshot}
 use Rattle.ph_book.specs.Entries.{call_entry}
-use Rattle.ph_book.specs.History.{Effect, Happening, and_then, call_effect, deed_asks, effect_after, effect_to, happening_of, keys_after, past_of, reply_at, said_briefly, saids_after, saved_said, time_after, turn_of, turns_after}
+use Rattle.ph_book.specs.History.{Effect, Happening, and_then, call_effect, asks_after, asks_to, effect_after, effect_to, happening_of, keys_after, past_of, reply_at, said_briefly, saids_after, saved_said, time_after, turn_of, turns_after}
 use Rattle.ph_book.specs.History as happened
 use Rattle.ph_book.specs.Keys.{asked_in, request_of}
 use Rattle.ph_book.specs.Legal.{IsAllowed, IsLegal, saved_weight}
@@ -117,19 +117,20 @@ IsOwn (Shows doc) = Unit {0}
 IsOwn (Sets moment) = Unit {0}
 
 -- what a call comes to by itself
-carried_own : (rows : List Row) (now : ℕ) (c : Call) (batch : BatchState) → IsOwn (carried rows now c batch)
-carried_own rows now (call.CreateIntent c) batch = tt
-carried_own rows now (call.UpdateIntent c) batch = tt
-carried_own rows now (call.ConfirmIntent c) batch = tt
-carried_own rows now (call.CaptureIntent c) batch = tt
-carried_own rows now (call.CancelIntent c) batch = tt
-carried_own rows now (call.CreateRefund c) batch = tt
-carried_own rows now (call.SendEvidence c) batch = tt
-carried_own rows now (call.CloseDispute c) batch = tt
-carried_own rows now (call.GetBalance c) batch = tt
-carried_own rows now (call.Retrieve c) batch = tt
-carried_own rows now (call.SetClock c) batch = chosen IsOwn (nat_lt c.now now) (Makes (Refuses (error_of ClockBackwards))) (Sets c.now) tt tt
-carried_own rows now (call.Authenticate c) batch = tt
+carried_own : (rows : List Row) (account now : ℕ) (c : Call) (batch : BatchState) → IsOwn (carried rows account now c batch)
+carried_own rows account now (call.CreateIntent c) batch = tt
+carried_own rows account now (call.UpdateIntent c) batch = tt
+carried_own rows account now (call.ConfirmIntent c) batch = tt
+carried_own rows account now (call.CaptureIntent c) batch = tt
+carried_own rows account now (call.CancelIntent c) batch = tt
+carried_own rows account now (call.CreateRefund c) batch = tt
+carried_own rows account now (call.SendEvidence c) batch = tt
+carried_own rows account now (call.CloseDispute c) batch = tt
+carried_own rows account now (call.GetBalance c) batch = tt
+carried_own rows account now (call.CreateAccount c) batch = tt
+carried_own rows account now (call.Retrieve c) batch = tt
+carried_own rows account now (call.SetClock c) batch = chosen IsOwn (nat_lt c.now now) (Makes (Refuses (error_of ClockBackwards))) (Sets c.now) tt tt
+carried_own rows account now (call.Authenticate c) batch = tt
 
 -- a call saves its reply exactly where it opens a record
 own_saves : (key : Option (List ℕ)) (opens_ : Bool) (rows : List Row) (now place caller : ℕ) (upshot : Upshot) → IsOwn upshot
@@ -159,19 +160,19 @@ request_saves : (rows : List Row) (now : ℕ) (keys : Keys) (place caller : ℕ)
     → (call_effect (key_asked (asked_in judged)) (opens keys (asked_in judged)) rows now place caller
     (request_upshot keys rows now (empty_batch (length rows) now place) judged)).saves ≡ opens keys (asked_in judged)
 request_saves rows now keys place caller (Refused error) = refl
-request_saves rows now keys place caller (Accepted c None) = none_saves rows now place caller (carried rows now c (empty_batch (length rows) now place))
-request_saves rows now keys place caller (Accepted c (Some asked)) =
-    found_saves rows now keys place caller (carried rows now c (empty_batch (length rows) now place)) asked (empty_batch (length rows) now place)
-    (carried_own rows now c (empty_batch (length rows) now place)) (keys.found asked)
+request_saves rows now keys place caller (Accepted account c None) = none_saves rows now place caller (carried rows account now c (empty_batch (length rows) now place))
+request_saves rows now keys place caller (Accepted account c (Some asked)) =
+    found_saves rows now keys place caller (carried rows account now c (empty_batch (length rows) now place)) asked (empty_batch (length rows) now place)
+    (carried_own rows account now c (empty_batch (length rows) now place)) (keys.found asked)
 
 call_saves : (setup : Setup) (past : List Happening) (caller : ℕ) (raw : Raw)
-    → (effect_after setup past (call_entry caller raw)).saves ≡ opens (keys_after setup past) (deed_asks setup (deed.Call raw))
+    → (effect_after setup past (call_entry caller raw)).saves ≡ opens (keys_after setup past) (asks_after setup past (deed.Call raw))
 unfolding called_at
 call_saves setup past caller raw =
-    request_saves (happened.rows_after setup past) (time_after setup past) (keys_after setup past) (length past + 1) caller (request_of setup.key raw)
+    request_saves (happened.rows_after setup past) (time_after setup past) (keys_after setup past) (length past + 1) caller (request_of setup.key (happened.rows_after setup past) raw)
 
 pub saves_opens : (setup : Setup) (history : List Entry) (caller : ℕ) (raw : Raw)
-    → (effect_to setup history (call_entry caller raw)).saves ≡ opens (keys_after setup (past_of setup history)) (deed_asks setup (deed.Call raw))
+    → (effect_to setup history (call_entry caller raw)).saves ≡ opens (keys_after setup (past_of setup history)) (asks_to setup history (deed.Call raw))
 unfolding effect_to
 saves_opens setup history caller raw = call_saves setup (past_of setup history) caller raw
 
@@ -211,7 +212,7 @@ call_opened : (setup : Setup) (history : List Entry) (caller : ℕ) (raw : Raw) 
     → IsAllowed setup (past_of setup history) (call_entry caller raw) → SettlesNone (step_of (effect_to setup history (call_entry caller raw)).doing)
     → records_of setup (history ++ call_entry caller raw ∷ [])
     ≡ with_opened (reply_at (saids_after (and_then setup (past_of setup history) (call_entry caller raw)))) (said_briefly (effect_to setup history (call_entry caller raw)).said)
-    (opened_if (effect_to setup history (call_entry caller raw)).saves (deed_asks setup (deed.Call raw)) (length history + 1) (happened.time_of setup history))
+    (opened_if (effect_to setup history (call_entry caller raw)).saves (asks_to setup history (deed.Call raw)) (length history + 1) (happened.time_of setup history))
     (records_of setup history)
 unfolding effect_to happened.time_of
 call_opened setup history caller raw small legal allowed none =
@@ -222,19 +223,19 @@ call_opened setup history caller raw small legal allowed none =
     let place : suc (length (turns_after setup past)) ≡ length history + 1 =
     (let turns = turn_count setup past in let count = length_past setup history in omega (arith, turns, count)) in
     records_more setup history entry small legal allowed
-    ∙ ap (λ (records : List KeyRecord). with_opened reply said (opening_of setup.opened (turns_after setup past) (deed_asks setup (deed.Call raw))) records)
+    ∙ ap (λ (records : List KeyRecord). with_opened reply said (opening_of setup.opened (turns_after setup past) (asks_to setup history (deed.Call raw))) records)
     (unsettled (reply (suc (length (turns_after setup past)))) (effect_after setup past entry).doing (records_of setup history) none)
-    ∙ ap (λ (all : List Opening). with_opened reply said all (records_of setup history)) (opening_is setup past (deed_asks setup (deed.Call raw)))
-    ∙ ap (λ open_. with_opened reply said (opened_if open_ (deed_asks setup (deed.Call raw)) (suc (length (turns_after setup past))) (time_of setup.opened (turns_after setup past))) (records_of setup history))
+    ∙ ap (λ (all : List Opening). with_opened reply said all (records_of setup history)) (opening_is setup past (asks_to setup history (deed.Call raw)))
+    ∙ ap (λ open_. with_opened reply said (opened_if open_ (asks_to setup history (deed.Call raw)) (suc (length (turns_after setup past))) (time_of setup.opened (turns_after setup past))) (records_of setup history))
     (sym (call_saves setup past caller raw))
-    ∙ ap (λ (p : ℕ × ℕ). with_opened reply said (opened_if (effect_after setup past entry).saves (deed_asks setup (deed.Call raw)) p.0 p.1) (records_of setup history))
+    ∙ ap (λ (p : ℕ × ℕ). with_opened reply said (opened_if (effect_after setup past entry).saves (asks_to setup history (deed.Call raw)) p.0 p.1) (records_of setup history))
     (λ i. (place i, turn_time setup past i))
 
 pub replied_kept : (setup : Setup) (history : List Entry) (caller : ℕ) (raw : Raw) (reply : Reply) → setup.entries < 2 ^ 32 → IsLegal setup history
     → IsAllowed setup (past_of setup history) (call_entry caller raw) → SettlesNone (step_of (effect_to setup history (call_entry caller raw)).doing)
     → (effect_to setup history (call_entry caller raw)).said ≡ Replies reply
     → records_of setup (history ++ call_entry caller raw ∷ [])
-    ≡ kept_records (called.saved_opening_of (asked_if (effect_to setup history (call_entry caller raw)).saves (deed_asks setup (deed.Call raw))) reply)
+    ≡ kept_records (called.saved_opening_of (asked_if (effect_to setup history (call_entry caller raw)).saves (asks_to setup history (deed.Call raw))) reply)
     (length history + 1) (happened.time_of setup history) (records_of setup history)
 unfolding effect_to happened.time_of
 replied_kept setup history caller raw reply small legal allowed none said =
@@ -246,14 +247,14 @@ replied_kept setup history caller raw reply small legal allowed none said =
     let here : replies (length history + 1) ≡ record { status = reply.status; body = reply.body } =
     ap replies (sym place) ∙ reply_now setup past entry ∙ ap saved_said said in
     call_opened setup history caller raw small legal allowed none
-    ∙ ap (λ (s : Said). with_opened replies (said_briefly s) (opened_if (effect_after setup past entry).saves (deed_asks setup (deed.Call raw)) (length history + 1) (time_after setup past)) (records_of setup history)) said
-    ∙ replied_records replies (effect_after setup past entry).saves (deed_asks setup (deed.Call raw)) (length history + 1) (time_after setup past) reply (records_of setup history) here
+    ∙ ap (λ (s : Said). with_opened replies (said_briefly s) (opened_if (effect_after setup past entry).saves (asks_to setup history (deed.Call raw)) (length history + 1) (time_after setup past)) (records_of setup history)) said
+    ∙ replied_records replies (effect_after setup past entry).saves (asks_to setup history (deed.Call raw)) (length history + 1) (time_after setup past) reply (records_of setup history) here
 
 pub waiting_kept : (setup : Setup) (history : List Entry) (caller : ℕ) (raw : Raw) (order : Order) → setup.entries < 2 ^ 32 → IsLegal setup history
     → IsAllowed setup (past_of setup history) (call_entry caller raw) → SettlesNone (step_of (effect_to setup history (call_entry caller raw)).doing)
     → (effect_to setup history (call_entry caller raw)).said ≡ Waits order
     → records_of setup (history ++ call_entry caller raw ∷ [])
-    ≡ begun_records (asked_if (effect_to setup history (call_entry caller raw)).saves (deed_asks setup (deed.Call raw)))
+    ≡ begun_records (asked_if (effect_to setup history (call_entry caller raw)).saves (asks_to setup history (deed.Call raw)))
     (length history + 1) (happened.time_of setup history) order.reference (records_of setup history)
 unfolding effect_to happened.time_of
 waiting_kept setup history caller raw order small legal allowed none said =
@@ -261,14 +262,14 @@ waiting_kept setup history caller raw order small legal allowed none said =
     let entry : Entry = call_entry caller raw in
     let replies : ℕ → Saved = reply_at (saids_after (and_then setup past entry)) in
     call_opened setup history caller raw small legal allowed none
-    ∙ ap (λ (s : Said). with_opened replies (said_briefly s) (opened_if (effect_after setup past entry).saves (deed_asks setup (deed.Call raw)) (length history + 1) (time_after setup past)) (records_of setup history)) said
-    ∙ waiting_records replies (effect_after setup past entry).saves (deed_asks setup (deed.Call raw)) (length history + 1) (time_after setup past) order.reference (records_of setup history)
+    ∙ ap (λ (s : Said). with_opened replies (said_briefly s) (opened_if (effect_after setup past entry).saves (asks_to setup history (deed.Call raw)) (length history + 1) (time_after setup past)) (records_of setup history)) said
+    ∙ waiting_records replies (effect_after setup past entry).saves (asks_to setup history (deed.Call raw)) (length history + 1) (time_after setup past) order.reference (records_of setup history)
 
 -- ---- the records after an entry that asks nothing
 
 -- an entry that asks nothing and settles nothing leaves them
 pub quiet_kept : (setup : Setup) (history : List Entry) (entry : Entry) → setup.entries < 2 ^ 32 → IsLegal setup history
-    → IsAllowed setup (past_of setup history) entry → deed_asks setup entry.deed ≡ None → SettlesNone (step_of (effect_to setup history entry).doing)
+    → IsAllowed setup (past_of setup history) entry → asks_to setup history entry.deed ≡ None → SettlesNone (step_of (effect_to setup history entry).doing)
     → records_of setup (history ++ entry ∷ []) ≡ records_of setup history
 unfolding effect_to
 quiet_kept setup history entry small legal allowed asks none =
@@ -294,24 +295,24 @@ resumed_kept setup history entry small legal allowed saves none = at entry.deed 
     at (deed.Call raw) is =
         let said : found.Said = said_briefly (effect_after setup past entry).said in
         let reply : ℕ → Saved = reply_at (saids_after (and_then setup past entry)) in
-        let opens_none : opens (keys_after setup past) (deed_asks setup entry.deed) ≡ false =
-        ap (λ d. opens (keys_after setup past) (deed_asks setup d)) is ∙ sym (call_saves setup past entry.caller raw)
+        let opens_none : opens (keys_after setup past) (asks_to setup history entry.deed) ≡ false =
+        ap (λ d. opens (keys_after setup past) (asks_to setup history d)) is ∙ sym (call_saves setup past entry.caller raw)
         ∙ ap (λ d. (effect_after setup past (record { caller = entry.caller; deed = d })).saves) (sym is) ∙ saves in
         records_more setup history entry small legal allowed
         ∙ ap (λ (all : List Opening). with_opened reply said all
         (with_settled (reply (suc (length (turns_after setup past)))) (effect_after setup past entry).doing (records_of setup history)))
-        (opening_is setup past (deed_asks setup entry.deed)
-        ∙ ap (λ open_. opened_if open_ (deed_asks setup entry.deed) (suc (length (turns_after setup past))) (time_of setup.opened (turns_after setup past))) opens_none
-        ∙ opened_none (deed_asks setup entry.deed) (suc (length (turns_after setup past))) (time_of setup.opened (turns_after setup past)))
+        (opening_is setup past (asks_to setup history entry.deed)
+        ∙ ap (λ open_. opened_if open_ (asks_to setup history entry.deed) (suc (length (turns_after setup past))) (time_of setup.opened (turns_after setup past))) opens_none
+        ∙ opened_none (asks_to setup history entry.deed) (suc (length (turns_after setup past))) (time_of setup.opened (turns_after setup past)))
         ∙ unsettled (reply (suc (length (turns_after setup past)))) (effect_after setup past entry).doing (records_of setup history) none
       where
         opened_none : (asked : Option Asked) (place moment : ℕ) → opened_if false asked place moment ≡ []
         opened_none None place moment = refl
         opened_none (Some asked) place moment = refl
-    at (deed.Finish run ruling) is = quiet_kept setup history entry small legal allowed (ap (deed_asks setup) is) none
-    at (deed.Park run why) is = quiet_kept setup history entry small legal allowed (ap (deed_asks setup) is) none
-    at deed.Resume is = quiet_kept setup history entry small legal allowed (ap (deed_asks setup) is) none
-    at (deed.Tick moment) is = quiet_kept setup history entry small legal allowed (ap (deed_asks setup) is) none
+    at (deed.Finish run ruling) is = quiet_kept setup history entry small legal allowed (ap (asks_to setup history) is) none
+    at (deed.Park run why) is = quiet_kept setup history entry small legal allowed (ap (asks_to setup history) is) none
+    at deed.Resume is = quiet_kept setup history entry small legal allowed (ap (asks_to setup history) is) none
+    at (deed.Tick moment) is = quiet_kept setup history entry small legal allowed (ap (asks_to setup history) is) none
 
 -- after a ruling its reply is saved for the call that waits for it
 settled_records : (found_ : Option KeyRecord) (reply : Reply) (records : List KeyRecord)
@@ -320,7 +321,7 @@ settled_records None reply records = refl
 settled_records (Some kept) reply records = refl
 
 pub settled_kept : (setup : Setup) (history : List Entry) (entry : Entry) (intent : ℕ) (flight : Flight) (capture : CaptureMethod) (ruling : Ruling) (reply : Reply)
-    → setup.entries < 2 ^ 32 → IsLegal setup history → IsAllowed setup (past_of setup history) entry → deed_asks setup entry.deed ≡ None
+    → setup.entries < 2 ^ 32 → IsLegal setup history → IsAllowed setup (past_of setup history) entry → asks_to setup history entry.deed ≡ None
     → (effect_to setup history entry).doing ≡ Settles intent flight capture ruling → (effect_to setup history entry).said ≡ Replies reply
     → records_of setup (history ++ entry ∷ [])
     ≡ saved_records reply.status (saving_of (find (is_attached flight.order.reference) (records_of setup history)) reply) (records_of setup history)
@@ -376,7 +377,7 @@ opening_weighs true (Some asked) reply only = omega arith
 opening_weighs false (Some asked) reply only = refl
 
 -- a call that asks nothing saves nothing
-pub call_opens_none : (setup : Setup) (history : List Entry) (caller : ℕ) (raw : Raw) → deed_asks setup (deed.Call raw) ≡ None
+pub call_opens_none : (setup : Setup) (history : List Entry) (caller : ℕ) (raw : Raw) → asks_to setup history (deed.Call raw) ≡ None
     → (effect_to setup history (call_entry caller raw)).saves ≡ false
 unfolding effect_to
 call_opens_none setup history caller raw asks =

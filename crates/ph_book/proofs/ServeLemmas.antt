@@ -48,6 +48,8 @@ item_of (item.Attempt attempt) one is = let same : attempt ≡ one = cc in ap it
 item_of (item.Charge charge) one is = absurd (cc)
 item_of (item.Refund refund) one is = absurd (cc)
 item_of (item.Dispute dispute) one is = absurd (cc)
+item_of (item.Transfer transfer) one is = absurd (cc)
+item_of (item.Fee fee) one is = absurd (cc)
 item_of (item.Txn txn) one is = absurd (cc)
 item_of (item.Event event) one is = absurd (cc)
 

@@ -27,7 +27,7 @@ use Rattle.ph_book.specs.declared.judged.Judged.TheVariants.{Refused, Accepted}
 use Rattle.ph_book.specs.Called.{asked_if}
 use Rattle.ph_book.specs.Calls.{Keys, Upshot, Rejects, Replays, Makes, Shows, Sets, by_found, called_at, carried, is_fresh, key_asked, opens, request_upshot, resumed_outcome}
 use Rattle.ph_book.specs.Entries.{call_entry, resume_entry}
-use Rattle.ph_book.specs.History.{Effect, call_effect, deed_asks, doings_after, effect_after, effect_to, keys_after, outcome_effect, past_of, resume_effect, said_to, shown_or_waits}
+use Rattle.ph_book.specs.History.{Effect, call_effect, asks_to, doings_after, effect_after, effect_to, keys_after, outcome_effect, past_of, resume_effect, rows_after, said_to, shown_or_waits}
 use Rattle.ph_book.specs.Keys.{asked_in, request_of}
 use Rattle.ph_book.specs.Legal.{IsLegal}
 use Rattle.ph_book.specs.Replies.{Said, Replies, Waits, Silence}
@@ -152,11 +152,11 @@ request_steps : (state : ViewState) (keys : Keys) (past : List Doing) (place cal
     → Steps caller place (call_effect (key_asked (asked_in judged)) (opens keys (asked_in judged)) state.rows state.time place caller
     (request_upshot keys state.rows state.time (batch_after state place) judged))
 request_steps state keys past place caller (Refused error) stands keeps knows = refl
-request_steps state keys past place caller (Accepted c None) stands keeps knows =
-    own_steps state None false place caller (carried state.rows state.time c (batch_after state place)) (carried_keeps state place c stands.ready keeps)
-request_steps state keys past place caller (Accepted c (Some asked)) stands keeps knows =
-    found_steps state keys past place caller (carried state.rows state.time c (batch_after state place)) asked stands
-    (carried_keeps state place c stands.ready keeps) knows (keys.found asked) refl
+request_steps state keys past place caller (Accepted account c None) stands keeps knows =
+    own_steps state None false place caller (carried state.rows account state.time c (batch_after state place)) (carried_keeps state place account c stands.ready keeps)
+request_steps state keys past place caller (Accepted account c (Some asked)) stands keeps knows =
+    found_steps state keys past place caller (carried state.rows account state.time c (batch_after state place)) asked stands
+    (carried_keeps state place account c stands.ready keeps) knows (keys.found asked) refl
 
 -- a call that waits and opens a record of what it asks, or asks nothing, begins its attempt
 found_begins : (state : ViewState) (keys : Keys) (place caller : ℕ) (own : Upshot) (asked : Asked) (order : Order) → KeepsCall state own → (what : Found)
@@ -178,10 +178,10 @@ request_begins : (state : ViewState) (keys : Keys) (past : List Doing) (place ca
     → step_of (call_effect (key_asked (asked_in judged)) (opens keys (asked_in judged)) state.rows state.time place caller
     (request_upshot keys state.rows state.time (batch_after state place) judged)).doing ≡ Some (step.Begins (record { caller = caller; run = place; order = order }))
 request_begins state keys past place caller (Refused error) order stands keeps opened said = absurd (cc)
-request_begins state keys past place caller (Accepted c None) order stands keeps opened said =
-    own_begins state None false place caller (carried state.rows state.time c (batch_after state place)) order (carried_keeps state place c stands.ready keeps) said
-request_begins state keys past place caller (Accepted c (Some asked)) order stands keeps opened said =
-    found_begins state keys place caller (carried state.rows state.time c (batch_after state place)) asked order (carried_keeps state place c stands.ready keeps)
+request_begins state keys past place caller (Accepted account c None) order stands keeps opened said =
+    own_begins state None false place caller (carried state.rows account state.time c (batch_after state place)) order (carried_keeps state place account c stands.ready keeps) said
+request_begins state keys past place caller (Accepted account c (Some asked)) order stands keeps opened said =
+    found_begins state keys place caller (carried state.rows account state.time c (batch_after state place)) asked order (carried_keeps state place account c stands.ready keeps)
     (keys.found asked) opened said
 
 -- the attempt that waits longest is taken up again
@@ -201,11 +201,11 @@ call_steps setup history caller raw few legal =
     let stood = legal_stands setup history few legal in
     let past = past_of setup history in
     subst (λ n. Steps caller (n + 1) (effect_after setup past (call_entry caller raw))) (length_past setup history)
-    (request_steps (view_after setup past) (keys_after setup past) (doings_after past) (length past + 1) caller (request_of setup.key raw) stood.stands
-    (judged_keeps setup.key raw) (knows_parked setup past))
+    (request_steps (view_after setup past) (keys_after setup past) (doings_after past) (length past + 1) caller (request_of setup.key (rows_after setup past) raw) stood.stands
+    (judged_keeps setup.key (rows_after setup past) raw) (knows_parked setup past))
 
 pub call_begins : (setup : Setup) (history : List Entry) (caller : ℕ) (raw : Raw) (order : Order) → setup.entries < 2 ^ 32 → IsLegal setup history
-    → asked_if (effect_to setup history (call_entry caller raw)).saves (deed_asks setup (call_entry caller raw).deed) ≡ deed_asks setup (call_entry caller raw).deed
+    → asked_if (effect_to setup history (call_entry caller raw)).saves (asks_to setup history (call_entry caller raw).deed) ≡ asks_to setup history (call_entry caller raw).deed
     → said_to setup history (call_entry caller raw) ≡ Waits order
     → step_of (effect_to setup history (call_entry caller raw)).doing ≡ Some (step.Begins (record { caller = caller; run = length history + 1; order = order }))
 unfolding effect_to called_at
@@ -213,8 +213,8 @@ call_begins setup history caller raw order few legal opened said =
     let stood = legal_stands setup history few legal in
     let past = past_of setup history in
     subst (λ n. step_of (effect_after setup past (call_entry caller raw)).doing ≡ Some (step.Begins (record { caller = caller; run = n + 1; order = order }))) (length_past setup history)
-    (request_begins (view_after setup past) (keys_after setup past) (doings_after past) (length past + 1) caller (request_of setup.key raw) order stood.stands
-    (judged_keeps setup.key raw) opened said)
+    (request_begins (view_after setup past) (keys_after setup past) (doings_after past) (length past + 1) caller (request_of setup.key (rows_after setup past) raw) order stood.stands
+    (judged_keeps setup.key (rows_after setup past) raw) opened said)
 
 pub resume_steps_to : (setup : Setup) (history : List Entry) (caller : ℕ) → setup.entries < 2 ^ 32 → IsLegal setup history
     → Steps caller (length history + 1) (effect_to setup history (resume_entry caller))

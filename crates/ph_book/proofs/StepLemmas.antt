@@ -100,7 +100,7 @@ known setup history = keys_after setup (past_of setup history)
 -- what a call comes to over what a book keeps
 pub call_is : (old : BookState) (setup : Setup) (history : List Entry) (rows : List Row) (time weight : ℕ) (attempts : List flights.Attempt) (records : List KeyRecord) (live place caller : ℕ) (raw : Raw) (effect : Effect)
     → record { setup = setup; history = history } ≡ old → IsBook setup history rows time weight attempts records live → place ≡ length history + 1
-    → request_effect setup (known setup history) rows time place caller raw (asked_in (request_of setup.key raw)) ≡ effect
+    → request_effect setup (known setup history) rows time place caller raw (asked_in (request_of setup.key rows raw)) ≡ effect
     → effect_to old.setup old.history (call_entry caller raw) ≡ effect
 call_is old setup history rows time weight attempts records live place caller raw effect is b at comes =
     subst (λ (x : BookState). effect_to x.setup x.history (call_entry caller raw) ≡ effect) is
@@ -115,12 +115,12 @@ time_now old setup history rows time weight attempts records live is b = ap (λ 
 pub called_is : (old : BookState) (setup : Setup) (history : List Entry) (rows : List Row) (time weight : ℕ) (attempts : List flights.Attempt) (records : List KeyRecord) (live place caller : ℕ) (raw : Raw) (made : Called)
     → record { setup = setup; history = history } ≡ old → IsBook setup history rows time weight attempts records live → place ≡ length history + 1
     → (asked opened : Option Asked)
-    → IsCalled rows time place caller asked opened (request_effect setup (known setup history) rows time place caller raw (asked_in (request_of setup.key raw))) made
+    → IsCalled rows time place caller asked opened (request_effect setup (known setup history) rows time place caller raw (asked_in (request_of setup.key rows raw))) made
     → IsCalled (rows_of old.setup old.history) (time_of old.setup old.history) place caller asked opened (effect_to old.setup old.history (call_entry caller raw)) made
 called_is old setup history rows time weight attempts records live place caller raw made is b at asked opened comes =
     let timed : time ≡ time_of old.setup old.history = sym (time_now old setup history rows time weight attempts records live is b) in
     let rowed : rows ≡ rows_of old.setup old.history = b.rows_are ∙ ap (λ (x : BookState). rows_of x.setup x.history) is in
-    let effect : Effect = request_effect setup (known setup history) rows time place caller raw (asked_in (request_of setup.key raw)) in
+    let effect : Effect = request_effect setup (known setup history) rows time place caller raw (asked_in (request_of setup.key rows raw)) in
     let same : effect ≡ effect_to old.setup old.history (call_entry caller raw) =
     sym (call_is old setup history rows time weight attempts records live place caller raw effect is b at refl) in
     subst (λ (p : List Row × (ℕ × Effect)). IsCalled p.0 p.1.0 place caller asked opened p.1.1 made) (λ i. (rowed i, (timed i, same i))) comes

@@ -1,6 +1,8 @@
 -- What a call comes to, in the order of its refusals.
-use Rattle.std.specs.Prelude.{ℕ, Bool, true, false, nat_lt, if◌then◌else◌, List, length, Option, Some, None, codes}
+use Rattle.std.specs.Option.{option_or}
+use Rattle.std.specs.Prelude.{ℕ, ◌==◌, Bool, true, false, nat_lt, if◌then◌else◌, List, length, Option, Some, None, codes}
 use Rattle.ph_base.specs.declared.ids.Kind.{Kind}
+use Rattle.ph_base.specs.declared.ids.Kind.TheVariants as kind
 use Rattle.ph_rows.specs.declared.rows.Row.{Row}
 use Rattle.ph_rows.specs.Batches.{BatchState, empty_batch, with_row}
 use Rattle.ph_rows.specs.Names.{owned_named}
@@ -29,7 +31,8 @@ use Rattle.ph_book.specs.declared.judged.Judged.{Judged}
 use Rattle.ph_book.specs.declared.judged.Judged.TheVariants.{Refused, Accepted}
 use Rattle.ph_book.specs.Keys.{request_of}
 use Rattle.ph_views.specs.Balances.{balance_doc}
-use Rattle.ph_items.specs.Accounts.{platform}
+use Rattle.ph_items.specs.Kinds.{kind_number}
+use Rattle.ph_accounts.specs.Create as accounts
 use Rattle.ph_intents.specs.Authenticate.{authenticate_outcome, fail_authentication_outcome}
 use Rattle.ph_intents.specs.Cancel.{cancel_outcome}
 use Rattle.ph_intents.specs.Capture.{capture_outcome}
@@ -46,19 +49,25 @@ abbrev pub found_outcome : Option Row → BatchState → Outcome
 found_outcome None batch = Refuses (error_of (NoSuchObject (codes "id")))
 found_outcome (Some row) batch = Adds Untouched row.object batch
 
--- the retrieve of the object of a kind that the path names
-abbrev pub retrieved : List Row → Kind → List ℕ → BatchState → Outcome
-retrieved rows wanted id batch = found_outcome (owned_named rows platform wanted id) batch
+-- the payment of an account whose printed id a text is, where charges are wanted: they are card charges and payments
+abbrev pub payment_named : List Row → ℕ → Kind → List ℕ → Option Row
+payment_named rows account wanted id =
+    if kind_number wanted == kind_number kind.Charge then owned_named rows account kind.Payment id else None
 
--- a create, which may be confirmed at once
-abbrev pub created : List Row → CreateIntent → BatchState → Outcome
-created rows call batch =
-    if call.confirm then create_confirmed_outcome rows platform call batch else create_outcome rows platform call batch
+-- the retrieve by an account of the object of a kind that the path names
+abbrev pub retrieved : List Row → ℕ → Kind → List ℕ → BatchState → Outcome
+retrieved rows account wanted id batch =
+    found_outcome (option_or (owned_named rows account wanted id) (payment_named rows account wanted id)) batch
 
--- an authentication that came to this
-abbrev pub authenticated : List Row → Authenticate → BatchState → Authentication → Outcome
-authenticated rows call batch Succeeded = authenticate_outcome rows platform call batch
-authenticated rows call batch Failed = fail_authentication_outcome rows platform call batch
+-- a create by an account, which may be confirmed at once
+abbrev pub created : List Row → ℕ → CreateIntent → BatchState → Outcome
+created rows account call batch =
+    if call.confirm then create_confirmed_outcome rows account call batch else create_outcome rows account call batch
+
+-- an authentication by an account that came to this
+abbrev pub authenticated : List Row → ℕ → Authenticate → BatchState → Authentication → Outcome
+authenticated rows account call batch Succeeded = authenticate_outcome rows account call batch
+authenticated rows account call batch Failed = fail_authentication_outcome rows account call batch
 
 -- an outcome, and the dispute of what it captures, where one is due
 abbrev pub and_opened : List Row → Outcome → Outcome
@@ -78,20 +87,21 @@ pub data Upshot : Type 0 where
 abbrev pub clock_set : ℕ → ℕ → Upshot
 clock_set now moment = if nat_lt moment now then Makes (Refuses (error_of ClockBackwards)) else Sets moment
 
--- what a call comes to when it is carried out at a time
-abbrev pub carried : List Row → ℕ → Call → BatchState → Upshot
-carried rows now (call.CreateIntent c) batch = Makes (created rows c batch)
-carried rows now (call.UpdateIntent c) batch = Makes (update_outcome rows platform c batch)
-carried rows now (call.ConfirmIntent c) batch = Makes (confirm_outcome rows platform c batch)
-carried rows now (call.CaptureIntent c) batch = Makes (and_opened rows (capture_outcome rows platform c batch))
-carried rows now (call.CancelIntent c) batch = Makes (cancel_outcome rows platform c batch)
-carried rows now (call.CreateRefund c) batch = Makes (refund_outcome rows platform c batch)
-carried rows now (call.SendEvidence c) batch = Makes (evidence_outcome rows platform c batch)
-carried rows now (call.CloseDispute c) batch = Makes (close_outcome rows platform c batch)
-carried rows now (call.GetBalance c) batch = Shows (balance_doc platform now rows)
-carried rows now (call.Retrieve c) batch = Makes (retrieved rows c.kind c.id batch)
-carried rows now (call.SetClock c) batch = clock_set now c.now
-carried rows now (call.Authenticate c) batch = Makes (authenticated rows c batch c.outcome)
+-- what a call of an account comes to when it is carried out at a time
+abbrev pub carried : List Row → ℕ → ℕ → Call → BatchState → Upshot
+carried rows account now (call.CreateIntent c) batch = Makes (created rows account c batch)
+carried rows account now (call.UpdateIntent c) batch = Makes (update_outcome rows account c batch)
+carried rows account now (call.ConfirmIntent c) batch = Makes (confirm_outcome rows account c batch)
+carried rows account now (call.CaptureIntent c) batch = Makes (and_opened rows (capture_outcome rows account c batch))
+carried rows account now (call.CancelIntent c) batch = Makes (cancel_outcome rows account c batch)
+carried rows account now (call.CreateRefund c) batch = Makes (refund_outcome rows account c batch)
+carried rows account now (call.SendEvidence c) batch = Makes (evidence_outcome rows account c batch)
+carried rows account now (call.CloseDispute c) batch = Makes (close_outcome rows account c batch)
+carried rows account now (call.CreateAccount c) batch = Makes (accounts.create_outcome rows account c batch)
+carried rows account now (call.GetBalance c) batch = Shows (balance_doc account now rows)
+carried rows account now (call.Retrieve c) batch = Makes (retrieved rows account c.kind c.id batch)
+carried rows account now (call.SetClock c) batch = clock_set now c.now
+carried rows account now (call.Authenticate c) batch = Makes (authenticated rows account c batch c.outcome)
 
 -- what the keys of the calls before a request say of it: what it finds under its key, the reply of an entry, and the key of the call that began an attempt
 pub record Keys : Type 0 where
@@ -131,11 +141,11 @@ keyed_upshot keys rows batch own (Some asked) = by_found keys rows batch own (ke
 -- what a request comes to of which the steps before its own make this
 abbrev pub request_upshot : Keys → List Row → ℕ → BatchState → Judged → Upshot
 request_upshot keys rows now batch (Refused error) = Rejects error
-request_upshot keys rows now batch (Accepted call asked) = keyed_upshot keys rows batch (carried rows now call batch) asked
+request_upshot keys rows now batch (Accepted account call asked) = keyed_upshot keys rows batch (carried rows account now call batch) asked
 
 -- what a request comes to, over these rows at this time, as the entry of a place, where this is the key of the setup
 unfoldable pub called_at : Keys → List ℕ → List Row → ℕ → ℕ → Raw → Upshot
-called_at keys key rows now place raw = request_upshot keys rows now (empty_batch (length rows) now place) (request_of key raw)
+called_at keys key rows now place raw = request_upshot keys rows now (empty_batch (length rows) now place) (request_of key rows raw)
 
 -- nothing was found under a key
 abbrev pub is_fresh : Found → Bool

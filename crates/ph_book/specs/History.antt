@@ -157,7 +157,7 @@ request_effect setup keys rows now place caller raw asked =
 -- what a caller's deed comes to after the past, by the keys of the calls of it, over these rows at this time, as the entry of a place: it ends a run of its own caller, or none
 abbrev pub effect_of : Setup → Keys → List Doing → List Row → ℕ → ℕ → ℕ → Deed → Effect
 effect_of setup keys past rows now place caller (deed.Call raw) =
-    request_effect setup keys rows now place caller raw (asked_in (request_of setup.key raw))
+    request_effect setup keys rows now place caller raw (asked_in (request_of setup.key rows raw))
 effect_of setup keys past rows now place caller (deed.Finish run ruling) = finish_effect keys rows now place ruling (own_run past caller run)
 effect_of setup keys past rows now place caller (deed.Park run why) = park_effect rows now place why (own_run past caller run)
 effect_of setup keys past rows now place caller deed.Resume = resume_effect rows now place caller (first_parked past)
@@ -204,13 +204,13 @@ happens entry effect =
 abbrev pub saids_after : List Happening → List Said
 saids_after past = fold (λ saids h. h.said ∷ saids) [] past
 
--- what a deed asks under a key
-abbrev pub deed_asks : Setup → Deed → Option Asked
-deed_asks setup (deed.Call raw) = asked_in (request_of setup.key raw)
-deed_asks setup (deed.Finish run ruling) = None
-deed_asks setup (deed.Park run why) = None
-deed_asks setup deed.Resume = None
-deed_asks setup (deed.Tick moment) = None
+-- what a deed asks under a key over these rows
+abbrev pub deed_asks : Setup → List Row → Deed → Option Asked
+deed_asks setup rows (deed.Call raw) = asked_in (request_of setup.key rows raw)
+deed_asks setup rows (deed.Finish run ruling) = None
+deed_asks setup rows (deed.Park run why) = None
+deed_asks setup rows deed.Resume = None
+deed_asks setup rows (deed.Tick moment) = None
 
 -- what was said to an entry, as key records see it
 abbrev pub said_briefly : Said → found.Said
@@ -218,13 +218,19 @@ said_briefly (Replies reply) = found.Replies
 said_briefly (Waits order) = found.Waits order.reference
 said_briefly Silence = found.Silence
 
--- what happened, as key records see it
-abbrev pub turn_of : Setup → Happening → Turn Asked
-turn_of setup h = record { asked = deed_asks setup h.entry.deed; doing = h.doing; said = said_briefly h.said; time = h.now }
+-- what happened over these rows, as key records see it
+abbrev pub turn_of : Setup → List Row → Happening → Turn Asked
+turn_of setup rows h =
+    record { asked = deed_asks setup rows h.entry.deed; doing = h.doing; said = said_briefly h.said; time = h.now }
+
+-- the turns of what happened over these rows, newest first, and these older ones
+abbrev pub turns_from : Setup → List Row → List (Turn Asked) → List Happening → List (Turn Asked)
+turns_from setup rows turns [] = turns
+turns_from setup rows turns (h ∷ past) = turns_from setup (rows ++ h.rows) (turn_of setup rows h ∷ turns) past
 
 -- the turns of what happened, newest first
 abbrev pub turns_after : Setup → List Happening → List (Turn Asked)
-turns_after setup past = fold (λ turns h. turn_of setup h ∷ turns) [] past
+turns_after setup past = turns_from setup (opening_row setup.opened ∷ []) [] past
 
 -- the reply to an entry, as it is saved
 abbrev pub saved_said : Said → Saved
@@ -260,8 +266,16 @@ abbrev pub effect_after : Setup → List Happening → Entry → Effect
 effect_after setup past entry =
     effect_of setup (keys_after setup past) (doings_after past) (rows_after setup past) (time_after setup past) (length past + 1) entry.caller entry.deed
 
+-- what an entry asks under a key after what happened
+abbrev pub asks_after : Setup → List Happening → Deed → Option Asked
+asks_after setup past deed = deed_asks setup (rows_after setup past) deed
+
 abbrev pub happening_of : Setup → List Happening → Entry → Happening
 happening_of setup past entry = happens entry (effect_after setup past entry)
+
+-- the turn of an entry after what happened
+abbrev pub turn_after : Setup → List Happening → Entry → Turn Asked
+turn_after setup past entry = turn_of setup (rows_after setup past) (happening_of setup past entry)
 
 -- one entry more
 abbrev pub and_then : Setup → List Happening → Entry → List Happening
@@ -286,6 +300,10 @@ doings_of setup history = doings_after (past_of setup history)
 -- what a view of a history shows
 abbrev pub view_of : Setup → List Entry → ViewState
 view_of setup history = record { time = time_of setup history; rows = rows_of setup history }
+
+-- what a deed asks under a key after a history
+abbrev pub asks_to : Setup → List Entry → Deed → Option Asked
+asks_to setup history deed = asks_after setup (past_of setup history) deed
 
 -- what an entry comes to after a history
 unfoldable pub effect_to : Setup → List Entry → Entry → Effect

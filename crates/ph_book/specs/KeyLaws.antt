@@ -9,7 +9,7 @@ use Rattle.ph_idem.specs.Kept.{has_key, is_like}
 use Rattle.ph_book.specs.declared.setup.Setup.{Setup}
 use Rattle.ph_book.specs.declared.acts.Entry.{Entry}
 use Rattle.ph_book.specs.Calls.{Keys}
-use Rattle.ph_book.specs.History.{deed_asks, doings_of, effect_to, keys_after, past_of, time_of, turns_after}
+use Rattle.ph_book.specs.History.{asks_to, doings_of, effect_to, keys_after, past_of, time_of, turns_after}
 use Rattle.ph_book.specs.Legal.{IsLegal}
 
 -- what is known of keys after a history
@@ -22,7 +22,7 @@ turns_of setup history = turns_after setup (past_of setup history)
 
 -- an entry opens a record of what it asks: its key is free
 pub record Opens (setup : Setup) (before : List Entry) (opener : Entry) (first : Asked) : Type 0 where
-  pub asks : deed_asks setup opener.deed ≡ Some first
+  pub asks : asks_to setup before opener.deed ≡ Some first
   pub free : (keys_of setup before).found first ≡ Fresh
 
 -- a call under the same key
@@ -49,7 +49,7 @@ SavedStays setup = (before later : List Entry) (place saved : ℕ) → IsLegal s
 abbrev pub KeyAddsNone : Setup → Type 0
 KeyAddsNone setup = (before later : List Entry) (opener entry : Entry) (first asked : Asked)
     → IsLegal setup ((before ++ opener ∷ later) ++ entry ∷ []) → Opens setup before opener first → IsUnder asked first
-    → deed_asks setup entry.deed ≡ Some asked → time_of setup (before ++ opener ∷ later) < time_of setup before + a_day
+    → asks_to setup (before ++ opener ∷ later) entry.deed ≡ Some asked → time_of setup (before ++ opener ∷ later) < time_of setup before + a_day
     → begun_by (effect_to setup (before ++ opener ∷ later) entry).doing ≡ None
 
 -- a call's key is in use: less than a day ago an entry opened its record with the same parameters; that waits for the ruling on an

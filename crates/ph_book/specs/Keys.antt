@@ -1,7 +1,6 @@
 -- Idempotency keys: which calls have one, what they ask under it, and what is wrong with a key.
-use Rattle.std.specs.Prelude.{ℕ, ◌==◌, ◌&&◌, not, nat_lt, Bool, true, false, if◌then◌else◌, List, length, take, Option, Some, None, Result, Ok, Err, codes, bytes_eq}
+use Rattle.std.specs.Prelude.{ℕ, ◌==◌, ◌&&◌, not, nat_lt, Bool, false, if◌then◌else◌, List, length, take, Option, Some, None, Result, Ok, Err, codes, bytes_eq}
 use Rattle.std.specs.Str.{is_utf8}
-use Rattle.ph_base.specs.declared.ids.Kind.TheVariants as kind
 use Rattle.ph_errors.specs.declared.api_error.ApiError.{ApiError}
 use Rattle.ph_errors.specs.Table.{InvalidApiKey, KeyNotText, KeyTooLong, NoSuchAccount, error_of}
 use Rattle.ph_form.specs.declared.fault.FormFault.{FormFault}
@@ -10,8 +9,8 @@ use Rattle.ph_http.specs.declared.message.Raw.{Raw}
 use Rattle.ph_calls.specs.declared.call.Call.{Call}
 use Rattle.ph_calls.specs.Reading.{form_of, reading_of}
 use Rattle.ph_idem.specs.declared.asked.Asked.{Asked}
-use Rattle.ph_items.specs.Accounts.{platform}
-use Rattle.ph_views.specs.Values.{printed_id}
+use Rattle.ph_accounts.specs.Naming.{account_of}
+use Rattle.ph_rows.specs.declared.rows.Row.{Row}
 use Rattle.ph_book.specs.declared.judged.Judged.{Judged}
 use Rattle.ph_book.specs.declared.judged.Judged.TheVariants.{Refused, Accepted}
 
@@ -19,11 +18,6 @@ use Rattle.ph_book.specs.declared.judged.Judged.TheVariants.{Refused, Accepted}
 abbrev pub is_key : List ℕ → Option (List ℕ) → Bool
 is_key key None = false
 is_key key (Some given) = bytes_eq given key
-
--- the account that a request names is the platform's own, which no header means too; no other account is there yet
-abbrev pub is_platform : Option (List ℕ) → Bool
-is_platform None = true
-is_platform (Some name) = bytes_eq name (printed_id kind.Account platform)
 
 -- the path of an object of the API
 abbrev pub is_of_api : List ℕ → Bool
@@ -39,34 +33,38 @@ abbrev pub key_of : Raw → Option (List ℕ)
 key_of raw = if bytes_eq raw.method (codes "POST") && is_of_api raw.path then key_given raw.key else None
 
 -- what is asked under a key: the call of an account, by the method, path and form of its request
-abbrev pub asked_by : Raw → List Leaf → List ℕ → Asked
-asked_by raw tree key =
-    record { account = platform; key = key; shape = record { method = raw.method; path = raw.path; tree = tree } }
+abbrev pub asked_by : ℕ → Raw → List Leaf → List ℕ → Asked
+asked_by account raw tree key =
+    record { account = account; key = key; shape = record { method = raw.method; path = raw.path; tree = tree } }
 
--- a key has at most 255 bytes, and is UTF-8
-abbrev pub keyed_request : Raw → Call → List Leaf → Option (List ℕ) → Judged
-keyed_request raw call tree None = Accepted call None
-keyed_request raw call tree (Some key) =
+-- a call of an account under a key or none: a key has at most 255 bytes, and is UTF-8
+abbrev pub keyed_request : ℕ → Raw → Call → List Leaf → Option (List ℕ) → Judged
+keyed_request account raw call tree None = Accepted account call None
+keyed_request account raw call tree (Some key) =
     if nat_lt 255 (length key) then Refused (error_of KeyTooLong) else
-    (if not (is_utf8 key) then Refused (error_of KeyNotText) else Accepted call (Some (asked_by raw tree key)))
+    (if not (is_utf8 key) then Refused (error_of KeyNotText) else Accepted account call (Some (asked_by account raw tree key)))
 
 -- a request whose call was read from this form; where there is none, no call was read
-abbrev pub formed_request : Raw → Call → Result (List Leaf) FormFault → Judged
-formed_request raw call (Err fault) = Accepted call None
-formed_request raw call (Ok tree) = keyed_request raw call tree (key_of raw)
+abbrev pub formed_request : ℕ → Raw → Call → Result (List Leaf) FormFault → Judged
+formed_request account raw call (Err fault) = Accepted account call None
+formed_request account raw call (Ok tree) = keyed_request account raw call tree (key_of raw)
 
--- a request that is read so
-abbrev pub read_request : Raw → Result Call ApiError → Judged
-read_request raw (Err error) = Refused error
-read_request raw (Ok call) = formed_request raw call (form_of raw)
+-- a request of an account that is read so
+abbrev pub read_request : ℕ → Raw → Result Call ApiError → Judged
+read_request account raw (Err error) = Refused error
+read_request account raw (Ok call) = formed_request account raw call (form_of raw)
 
--- what the steps before its own make of a request, where this is the key of the setup
-unfoldable pub request_of : List ℕ → Raw → Judged
-request_of key raw =
-    if not (is_key key raw.auth) then Refused (error_of InvalidApiKey) else
-    (if not (is_platform raw.account) then Refused (error_of NoSuchAccount) else read_request raw (reading_of raw))
+-- a request of the account that it names, where there is one
+abbrev pub account_request : Raw → Option ℕ → Judged
+account_request raw None = Refused (error_of NoSuchAccount)
+account_request raw (Some account) = read_request account raw (reading_of account raw)
+
+-- what the steps before its own make of a request over these rows, where this is the key of the setup
+unfoldable pub request_of : List ℕ → List Row → Raw → Judged
+request_of key rows raw =
+    if not (is_key key raw.auth) then Refused (error_of InvalidApiKey) else account_request raw (account_of rows raw.account)
 
 -- what a request asks under a key, where it has one and its call may be carried out
 abbrev pub asked_in : Judged → Option Asked
 asked_in (Refused error) = None
-asked_in (Accepted call asked) = asked
+asked_in (Accepted account call asked) = asked

@@ -1,5 +1,5 @@
 -- What holds of the rows of every legal history.
-use Rattle.std.specs.Prelude.{◌≡◌, ◌≢◌, ℕ, ◌+◌, ◌≤◌, pos, ◌+ℤ◌, ◌≤ℤ◌, nat_le, not, List, [], ◌∷◌, ◌++◌, length, Option, Some, None, true}
+use Rattle.std.specs.Prelude.{◌≡◌, ◌≢◌, ℕ, ◌+◌, ◌≤◌, ℤ, pos, ◌+ℤ◌, ◌≤ℤ◌, nat_le, not, List, [], ◌∷◌, ◌++◌, length, Option, Some, None, true}
 use Rattle.std.specs.List.{filter, list_all}
 use Rattle.ph_base.specs.declared.acquirer.Ruling.{Ruling}
 use Rattle.ph_base.specs.declared.acquirer.Why.{Why}
@@ -18,6 +18,8 @@ use Rattle.ph_rows.specs.declared.rows.Row.{Row}
 use Rattle.ph_items.specs.declared.charges.Charge.{Charge}
 use Rattle.ph_items.specs.declared.charges.ChargeSort.TheVariants as charge_sort
 use Rattle.ph_items.specs.declared.disputes.Dispute.{Dispute}
+use Rattle.ph_items.specs.declared.disputes.DisputeStatus.{DisputeStatus}
+use Rattle.ph_items.specs.declared.disputes.DisputeStatus.TheVariants as dispute_status
 use Rattle.ph_items.specs.declared.intents.Intent.{Intent}
 use Rattle.ph_items.specs.declared.intents.IntentStatus.TheVariants as status
 use Rattle.ph_items.specs.declared.items.Item.TheVariants as item
@@ -25,7 +27,7 @@ use Rattle.ph_rows.specs.Balances.{available_of, movements_of, net_of, pending_o
 use Rattle.ph_items.specs.Kinds.{kind_of}
 use Rattle.ph_rows.specs.Rows.{latest_of, row_at}
 use Rattle.ph_facts.specs.Held.{charge_of}
-use Rattle.ph_facts.specs.Amounts.{captured_of, moves_in, moves_of, refunded_of}
+use Rattle.ph_facts.specs.Amounts.{Move, captured_of, moves_in, moves_of, refunded_of}
 use Rattle.ph_views.specs.Values.{printed_id}
 use Rattle.ph_book.specs.declared.acts.Deed.{Deed}
 use Rattle.ph_book.specs.declared.acts.Deed.TheVariants as deed
@@ -54,9 +56,21 @@ pub record IsLeftOf (object : ℕ) (rows : List Row) (intent : Intent) : Type 0 
   pub pays : charge.sort ≡ charge_sort.Card object
   pub left : pos intent.amount_capturable +ℤ captured_of number rows ≡ pos charge.amount
 
--- the amounts that the present versions of charges and of payment intents say are sums over the rows
+-- the amounts of some moves together
+abbrev pub amount_of : List Move → ℤ
+amount_of [] = pos 0
+amount_of (move ∷ moves) = move.amount +ℤ amount_of moves
+
+-- what a dispute of an amount has taken on the whole in a status: the amount, and nothing where it is won
+abbrev pub taken_in : DisputeStatus → ℕ → ℤ
+taken_in dispute_status.NeedsResponse amount = pos amount
+taken_in dispute_status.UnderReview amount = pos amount
+taken_in dispute_status.Won amount = pos 0
+taken_in dispute_status.Lost amount = pos amount
+
+-- the amounts that the present versions of charges, payment intents and disputes say are sums over the rows
 pub record AmountsAreSums (rows : List Row) : Type 0 where
-  -- what was captured is the sum of its transactions of type charge
+  -- what was captured is the sum of its transactions of type charge, or of type payment
   pub captured : (object : ℕ) (row : Row) (charge : Charge) → latest_of object rows ≡ Some row → row.item ≡ item.Charge charge
       → pos charge.amount_captured ≡ captured_of object rows
   -- what was refunded is the sum of its refunds
@@ -65,6 +79,9 @@ pub record AmountsAreSums (rows : List Row) : Type 0 where
   -- what can be captured of a payment intent that waits for its capture is what is left of what was authorised of its charge
   pub capturable : (object : ℕ) (row : Row) (intent : Intent) → latest_of object rows ≡ Some row → row.item ≡ item.Intent intent
       → intent.status ≡ status.RequiresCapture → IsLeftOf object rows intent
+  -- what a dispute has taken, its amount, or nothing where it is won, is what its transactions take together
+  pub disputed : (object : ℕ) (row : Row) (dispute : Dispute) → latest_of object rows ≡ Some row → row.item ≡ item.Dispute dispute
+      → amount_of (moves_of object rows) +ℤ taken_in dispute.status dispute.amount ≡ pos 0
 
 -- the refunds of a charge add up to no more than what was captured of it
 abbrev pub RefundsFit : List Row → Type 0

@@ -78,7 +78,7 @@ park_is_of past rows now place caller run why (Some flight) e numbered =
 effect_is_of : (setup : Setup) (keys : Keys) (past : List Doing) (rows : List Row) (now place caller : ℕ) (d : Deed) → IsNumbered past caller place → AreNumbered past
     → IsOf caller past (effect_of setup keys past rows now place caller d).doing
 effect_is_of setup keys past rows now place caller (deed.Call raw) numbered all =
-    call_is_of past (key_asked (asked_in (request_of setup.key raw))) (opens keys (asked_in (request_of setup.key raw))) rows now place caller
+    call_is_of past (key_asked (asked_in (request_of setup.key rows raw))) (opens keys (asked_in (request_of setup.key rows raw))) rows now place caller
     (called_at keys setup.key rows now place raw) numbered
 effect_is_of setup keys past rows now place caller (deed.Finish run ruling) numbered all =
     finish_is_of past keys rows now place caller run ruling (own_run past caller run) refl all

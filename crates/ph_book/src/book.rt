@@ -10,7 +10,7 @@ ghost use Rattle.ph_book.specs.Answers.{HasStatus, IsAnswerTo, IsNoPark, Says, i
 ghost use Rattle.ph_book.specs.Called.{IsOpening, asked_if};
 ghost use Rattle.ph_book.specs.ComesTo.{CallComesTo, TakesUpAttempt};
 ghost use Rattle.ph_book.specs.Entries.{IsGranted, IsWithinClock, TakesUp, call_entry, deed_of, entry_of, finish_entry, park_entry, resume_entry, tick_entry};
-ghost use Rattle.ph_book.specs.History.{deed_asks, effect_to, nothing, opening_row, replies_of, said_to, time_of};
+ghost use Rattle.ph_book.specs.History.{asks_to, effect_to, nothing, opening_row, replies_of, said_to, time_of};
 ghost use Rattle.ph_book.specs.Queries.{Sees};
 ghost use Rattle.ph_book.specs.Replies.{Replies, Silence, Waits, park_reply};
 ghost use Rattle.ph_book.specs.Hosts.{IsLawful};
@@ -237,7 +237,7 @@ impl Book {
         requires rows { (effect_to self.old.setup self.old.history (call_entry caller raw)).rows ≡ rows.items }
         requires step { step_of (effect_to self.old.setup self.old.history (call_entry caller raw)).doing ≡ None }
         requires now { (effect_to self.old.setup self.old.history (call_entry caller raw)).now ≡ now }
-        requires opening { IsOpening (deed_asks self.old.setup (deed.Call raw)) (effect_to self.old.setup self.old.history (call_entry caller raw)) opening }
+        requires opening { IsOpening (asks_to self.old.setup self.old.history (deed.Call raw)) (effect_to self.old.setup self.old.history (call_entry caller raw)) opening }
         ensures entry { OnOk result (self.new ≡ entered self.old (call_entry caller raw)) }
         ensures unchanged { IfErr result (λ back. (back ≡ raw) × (self.new ≡ self.old)) }
     {
@@ -284,7 +284,7 @@ impl Book {
         requires step { step_of (effect_to self.old.setup self.old.history (call_entry caller raw)).doing
             ≡ Some (Begins (record { caller = caller; run = length self.old.history + 1; order = order })) }
         requires now { (effect_to self.old.setup self.old.history (call_entry caller raw)).now ≡ time_of self.old.setup self.old.history }
-        requires asked { asked ≡ asked_if (effect_to self.old.setup self.old.history (call_entry caller raw)).saves (deed_asks self.old.setup (deed.Call raw)) }
+        requires asked { asked ≡ asked_if (effect_to self.old.setup self.old.history (call_entry caller raw)).saves (asks_to self.old.setup self.old.history (deed.Call raw)) }
         ensures entry { OnOk result (self.new ≡ entered self.old (call_entry caller raw)) }
         ensures ticket { IfOk result (λ ticket. ticket ≡ record { caller = caller; run = length self.old.history + 1; order = order }) }
         ensures live { IfOk result (λ ticket. Holds self.new.setup self.new.history caller ticket) }

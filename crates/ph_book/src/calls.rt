@@ -6,11 +6,11 @@ ghost use Rattle.ph_rows.specs.Names.{owned_named};
 ghost use Rattle.ph_facts.specs.Outcomes.{Gives, Outcome};
 ghost use Rattle.ph_idem.specs.declared.asked.Asked.{Asked};
 ghost use Rattle.ph_views.specs.Balances.{balance_doc};
-ghost use Rattle.ph_items.specs.Accounts.{platform};
+ghost use Rattle.std.specs.Option.{option_or};
 ghost use Rattle.ph_intents.specs.Begun.{GivesBegun};
 ghost use Rattle.ph_intents.specs.Capture.{capture_outcome};
 ghost use Rattle.ph_book.specs.declared.setup.Setup.{Setup};
-ghost use Rattle.ph_book.specs.Calls.{Keys, Makes, Shows, and_opened, authenticated, carried, clock_set, created, key_asked, retrieved};
+ghost use Rattle.ph_book.specs.Calls.{Keys, Makes, Shows, and_opened, authenticated, carried, clock_set, created, key_asked, payment_named, retrieved};
 ghost use Rattle.ph_book.specs.Called.{Comes, HaveReplies, IsCalled, ServeKeys, saved_opening_of};
 ghost use Rattle.ph_book.specs.ComesTo.{KeyedComesTo, OwnComesTo, RequestComesTo};
 ghost use Rattle.ph_book.specs.History.{Effect};
@@ -28,7 +28,7 @@ use ph_errors::{ApiError, Refusal};
 use ph_http::{Raw, Reply};
 use ph_idem::{Asked, Found, Records, Saved};
 use ph_intents::{Begin, Begun, begin, cancel, capture, create, fail_authentication, update};
-use ph_items::{Order, PLATFORM};
+use ph_items::{Order, kind_number};
 use ph_json::Doc;
 use ph_kinds::Authentication;
 use ph_refunds::refund;
@@ -74,17 +74,39 @@ pub enum Called {
     Resuming(u64),
 }
 
-// A retrieve of the object of a kind whose id stands in the path.
+// The payment of an account whose printed id a text is, where charges are wanted.
+fn payment_named<'a>(store: &'a Store, account: u64, wanted: Kind, id: &[u8]) -> Option<&'a Row>
+    ensures { option_copied result ≡ payment_named store.now.rows account wanted id.now }
+{
+    if kind_number(wanted) == kind_number(Kind::Charge) {
+        owned_named(store, account, Kind::Payment, id)
+    } else {
+        None
+    }
+}
+
+// The object of a kind and an account whose printed id a text is; a payment is a charge too.
+fn shown_named<'a>(store: &'a Store, account: u64, wanted: Kind, id: &[u8]) -> Option<&'a Row>
+    ensures { option_copied result ≡ option_or (owned_named store.now.rows account wanted id.now) (payment_named store.now.rows account wanted id.now) }
+{
+    match owned_named(store, account, wanted, id) {
+        Some(row) => Some(row),
+        None => payment_named(store, account, wanted, id),
+    }
+}
+
+// A retrieve by an account of the object of a kind whose id stands in the path.
 fn retrieve(
     alloc: Global,
     store: &Store,
-    kind: Kind,
+    account: u64,
+    wanted: Kind,
     id: &[u8],
     batch: &Batch,
 ) -> Result<u64, Refusal>
-    ensures { Gives (retrieved store.now.rows kind id.now batch.now) batch.now result batch.now }
+    ensures { Gives (retrieved store.now.rows account wanted id.now batch.now) batch.now result batch.now }
 {
-    match owned_named(store, PLATFORM, kind, id) {
+    match shown_named(store, account, wanted, id) {
         Some(row) => Ok(row.object),
         None => Err(Refusal::of(ApiError::no_such_object(alloc, b"id"))),
     }
@@ -94,15 +116,16 @@ fn retrieve(
 fn make(
     alloc: Global,
     store: &Store,
+    account: u64,
     call: &CreateIntent,
     batch: &mut Batch,
 ) -> Result<Carried, Refusal>
-    ensures { Comes (Makes (created store.now.rows call.now batch.old)) result batch.new }
+    ensures { Comes (Makes (created store.now.rows account call.now batch.old)) result batch.new }
 {
     if call.confirm {
-        begun(begin(alloc, store, PLATFORM, &Begin::Create(call), batch))
+        begun(begin(alloc, store, account, &Begin::Create(call), batch))
     } else {
-        added(create(alloc, store, PLATFORM, call, batch))
+        added(create(alloc, store, account, call, batch))
     }
 }
 
@@ -110,12 +133,13 @@ fn make(
 fn take(
     alloc: Global,
     store: &Store,
+    account: u64,
     call: &CaptureIntent,
     batch: &mut Batch,
 ) -> Result<u64, Refusal>
-    ensures { Gives (and_opened store.now.rows (capture_outcome store.now.rows platform call.now batch.old)) batch.old result batch.new }
+    ensures { Gives (and_opened store.now.rows (capture_outcome store.now.rows account call.now batch.old)) batch.old result batch.new }
 {
-    match capture(alloc, store, PLATFORM, call, batch) {
+    match capture(alloc, store, account, call, batch) {
         Ok(object) => match open_due(alloc, store, object, batch) {
             Ok(()) => Ok(object),
             Err(NoMemory) => Err(Refusal::NoMemory),
@@ -128,28 +152,29 @@ fn take(
 fn authenticate(
     alloc: Global,
     store: &Store,
+    account: u64,
     call: &Authenticate,
     batch: &mut Batch,
 ) -> Result<Carried, Refusal>
-    ensures { Comes (Makes (authenticated store.now.rows call.now batch.old call.now.outcome)) result batch.new }
+    ensures { Comes (Makes (authenticated store.now.rows account call.now batch.old call.now.outcome)) result batch.new }
 {
     match call.outcome {
         Authentication::Succeeded => begun(begin(
             alloc,
             store,
-            PLATFORM,
+            account,
             &Begin::Authenticate(call),
             batch,
         )),
-        Authentication::Failed => added(fail_authentication(alloc, store, PLATFORM, call, batch)),
+        Authentication::Failed => added(fail_authentication(alloc, store, account, call, batch)),
     }
 }
 
-// The balance of the platform.
-fn balance(alloc: Global, store: &Store) -> Result<Carried, Refusal>
-    ensures { (batch : BatchState) → Comes (Shows (balance_doc platform store.now.time store.now.rows)) result batch }
+// The balance of an account.
+fn balance(alloc: Global, store: &Store, account: u64) -> Result<Carried, Refusal>
+    ensures { (batch : BatchState) → Comes (Shows (balance_doc account store.now.time store.now.rows)) result batch }
 {
-    match balance_doc(alloc, store, PLATFORM) {
+    match balance_doc(alloc, store, account) {
         Ok(doc) => Ok(Carried::Shown(doc)),
         Err(NoMemory) => Err(Refusal::NoMemory),
     }
@@ -186,27 +211,36 @@ fn begun(given: Result<Begun, Refusal>) -> Result<Carried, Refusal>
     }
 }
 
-// Carries a call out: one arm for each row of the table of calls.
-fn carry(alloc: Global, store: &Store, call: &Call, batch: &mut Batch) -> Result<Carried, Refusal>
-    ensures { Comes (carried store.now.rows store.now.time call.now batch.old) result batch.new }
+// Carries a call of an account out: one arm for each row of the table of calls.
+fn carry(
+    alloc: Global,
+    store: &Store,
+    account: u64,
+    call: &Call,
+    batch: &mut Batch,
+) -> Result<Carried, Refusal>
+    ensures { Comes (carried store.now.rows account store.now.time call.now batch.old) result batch.new }
 {
     match call {
-        Call::CreateIntent(call) => make(alloc, store, call, batch),
-        Call::UpdateIntent(call) => added(update(alloc, store, PLATFORM, call, batch)),
+        Call::CreateIntent(call) => make(alloc, store, account, call, batch),
+        Call::UpdateIntent(call) => added(update(alloc, store, account, call, batch)),
         Call::ConfirmIntent(call) => {
-            begun(begin(alloc, store, PLATFORM, &Begin::Confirm(call), batch))
+            begun(begin(alloc, store, account, &Begin::Confirm(call), batch))
         }
-        Call::CaptureIntent(call) => added(take(alloc, store, call, batch)),
-        Call::CancelIntent(call) => added(cancel(alloc, store, PLATFORM, call, batch)),
-        Call::CreateRefund(call) => added(refund(alloc, store, PLATFORM, call, batch)),
-        Call::SendEvidence(call) => added(evidence(alloc, store, PLATFORM, call, batch)),
-        Call::CloseDispute(call) => added(close(alloc, store, PLATFORM, call, batch)),
+        Call::CaptureIntent(call) => added(take(alloc, store, account, call, batch)),
+        Call::CancelIntent(call) => added(cancel(alloc, store, account, call, batch)),
+        Call::CreateRefund(call) => added(refund(alloc, store, account, call, batch)),
+        Call::SendEvidence(call) => added(evidence(alloc, store, account, call, batch)),
+        Call::CloseDispute(call) => added(close(alloc, store, account, call, batch)),
+        Call::CreateAccount(call) => {
+            added(ph_accounts::create(alloc, store, account, call, batch))
+        }
         Call::Retrieve(call) => {
-            added(retrieve(alloc, store, call.kind, call.id.as_slice(), batch))
+            added(retrieve(alloc, store, account, call.kind, call.id.as_slice(), batch))
         }
-        Call::GetBalance(_) => balance(alloc, store),
+        Call::GetBalance(_) => balance(alloc, store, account),
         Call::SetClock(call) => set_clock(alloc, store.time(), call.now),
-        Call::Authenticate(call) => authenticate(alloc, store, call, batch),
+        Call::Authenticate(call) => authenticate(alloc, store, account, call, batch),
     }
 }
 
@@ -315,18 +349,20 @@ fn refused(
     })
 }
 
-// What a call comes to by itself as the entry of a place: it opens a record of what it asks, where it is handed that.
+// What a call of an account comes to by itself as the entry of a place: it opens a record of what it asks, where it is
+// handed that.
 fn made(
     alloc: Global,
     store: &Store,
+    account: u64,
     place: u64,
     call: &Call,
     asked: Option<Asked>,
 ) -> Result<Called, NoMemory>
-    ensures { (caller : ℕ) → IfOk result (λ called. OwnComesTo store.now.rows store.now.time place caller call.now asked called) }
+    ensures { (caller : ℕ) → IfOk result (λ called. OwnComesTo store.now.rows account store.now.time place caller call.now asked called) }
 {
     let mut batch = Batch::new(alloc, store.rows().len() as u64, store.time(), place);
-    match carry(alloc, store, call, &mut batch) {
+    match carry(alloc, store, account, call, &mut batch) {
         Ok(Carried::Added(object)) => shown(alloc, store, object, batch, asked),
         Ok(Carried::Begun(begun)) => waiting(alloc, begun.order, batch, asked),
         Ok(Carried::Shown(doc)) => answered(alloc, &doc, store.time(), asked),
@@ -358,22 +394,23 @@ fn replayed(alloc: Global, store: &Store, saved: Option<&Saved>) -> Result<Calle
     }
 }
 
-// What a call comes to that asks this under a key, as the entry of a place.
+// What a call of an account comes to that asks this under a key, as the entry of a place.
 fn keyed(
     alloc: Global,
     store: &Store,
     records: &Records,
+    account: u64,
     place: u64,
     call: &Call,
     asked: Asked,
 ) -> Result<Called, NoMemory>
     requires replies { HaveReplies store.now.time records.now }
     ensures { (keys : Keys) (caller : ℕ) → ServeKeys keys store.now.rows store.now.time records.now
-        → IfOk result (λ called. KeyedComesTo keys store.now.rows store.now.time place caller call.now asked called) }
+        → IfOk result (λ called. KeyedComesTo keys store.now.rows account store.now.time place caller call.now asked called) }
 {
     let now = store.time();
     match records.find(asked.account, asked.key.as_slice(), &asked.shape, now) {
-        Found::Fresh => made(alloc, store, place, call, Some(asked)),
+        Found::Fresh => made(alloc, store, account, place, call, Some(asked)),
         Found::Differs => refused(alloc, &ApiError::key_differs(alloc)?, now, None),
         Found::Begun(reference) => {
             if is_parked(store, reference) {
@@ -398,13 +435,13 @@ pub fn called_by(
 ) -> Result<Called, NoMemory>
     requires replies { HaveReplies store.now.time records.now }
     ensures { (setup : Setup) (keys : Keys) (caller : ℕ) → setup.key ≡ key.now → ServeKeys keys store.now.rows store.now.time records.now
-        → IfOk result (λ called. RequestComesTo setup keys store.now.rows store.now.time place caller raw.now (asked_in (request_of key.now raw.now)) called) }
+        → IfOk result (λ called. RequestComesTo setup keys store.now.rows store.now.time place caller raw.now (asked_in (request_of key.now store.now.rows raw.now)) called) }
 {
-    match judge(alloc, key, raw)? {
+    match judge(alloc, key, store, raw)? {
         Judged::Refused(error) => refused(alloc, &error, store.time(), None),
-        Judged::Accepted(call, asked) => match asked {
-            None => made(alloc, store, place, &call, None),
-            Some(asked) => keyed(alloc, store, records, place, &call, asked),
+        Judged::Accepted(account, call, asked) => match asked {
+            None => made(alloc, store, account, place, &call, None),
+            Some(asked) => keyed(alloc, store, records, account, place, &call, asked),
         },
     }
 }

@@ -9,13 +9,14 @@ ghost use Rattle.ph_book.specs.declared.judged.Judged.TheVariants.{Refused, Acce
 ghost use Rattle.ph_book.specs.Keys as spec;
 ghost use Rattle.ph_calls.specs.Reading.{form_of, reading_of};
 
-use ph_base::{Bytes, Id, Kind, NoMemory, print_id};
+use crate::store::Store;
+use ph_accounts::account_of;
+use ph_base::{Bytes, NoMemory};
 use ph_calls::{Call, read_call};
 use ph_errors::{ApiError, Refusal};
 use ph_form::Form;
 use ph_http::Raw;
 use ph_idem::{Asked, Shape};
-use ph_items::PLATFORM;
 use std::alloc::Global;
 
 /// What the steps of a request before its own make of it.
@@ -23,8 +24,8 @@ use std::alloc::Global;
 pub enum Judged {
     /// It is refused, since it is no call that may be carried out.
     Refused(ApiError),
-    /// Its call may be carried out, and asks this under an idempotency key, or has none.
-    Accepted(Call, Option<Asked>),
+    /// Its call may be carried out for the account of this number, and asks this under an idempotency key, or has none.
+    Accepted(u64, Call, Option<Asked>),
 }
 
 // Whether the credentials of a request are the key of the setup.
@@ -34,22 +35,6 @@ fn is_key(key: &Bytes, given: &Option<Bytes>) -> bool
     match given {
         Some(given) => given.as_slice() == key.as_slice(),
         None => false,
-    }
-}
-
-// Whether the account that a request names is the platform's own.
-fn is_platform(account: &Option<Bytes>) -> bool
-    ensures { result ≡ spec.is_platform account.now }
-{
-    match account {
-        Some(name) => {
-            let platform = print_id(Id {
-                kind: Kind::Account,
-                number: PLATFORM,
-            });
-            name.as_slice() == platform.as_slice()
-        }
-        None => true,
     }
 }
 
@@ -97,12 +82,12 @@ fn is_text(key: &[u8]) -> bool
     }
 }
 
-// What a call asks under a key.
-fn asked(alloc: Global, raw: &Raw, tree: Form, key: &Bytes) -> Result<Asked, NoMemory>
-    ensures { IfOk result (λ asked. asked ≡ spec.asked_by raw.now tree key.now) }
+// What a call of an account asks under a key.
+fn asked(alloc: Global, account: u64, raw: &Raw, tree: Form, key: &Bytes) -> Result<Asked, NoMemory>
+    ensures { IfOk result (λ asked. asked ≡ spec.asked_by account raw.now tree key.now) }
 {
     Ok(Asked {
-        account: PLATFORM,
+        account,
         key: key.copy(alloc)?,
         shape: Shape {
             method: raw.method.copy(alloc)?,
@@ -112,11 +97,11 @@ fn asked(alloc: Global, raw: &Raw, tree: Form, key: &Bytes) -> Result<Asked, NoM
     })
 }
 
-// What is asked under a key by a request that was read from this form, or what is wrong with the key.
-fn under(alloc: Global, raw: &Raw, tree: Form, key: &Bytes) -> Result<Asked, Refusal>
-    ensures asked { (call : Call) → IfOk result (λ asked. spec.keyed_request raw.now call tree (Some key.now) ≡ Accepted call (Some asked)) }
+// What is asked under a key by a request of an account that was read from this form, or what is wrong with the key.
+fn under(alloc: Global, account: u64, raw: &Raw, tree: Form, key: &Bytes) -> Result<Asked, Refusal>
+    ensures asked { (call : Call) → IfOk result (λ asked. spec.keyed_request account raw.now call tree (Some key.now) ≡ Accepted account call (Some asked)) }
     ensures refused { (call : Call) → IfErr result (λ refusal. (error : ApiError) → refusal ≡ Api error
-        → spec.keyed_request raw.now call tree (Some key.now) ≡ Refused error) }
+        → spec.keyed_request account raw.now call tree (Some key.now) ≡ Refused error) }
 {
     if 255 < key.as_slice().len() {
         return Err(Refusal::Api(ApiError::key_too_long(alloc)?));
@@ -124,58 +109,67 @@ fn under(alloc: Global, raw: &Raw, tree: Form, key: &Bytes) -> Result<Asked, Ref
     if !is_text(key.as_slice()) {
         return Err(Refusal::Api(ApiError::key_not_text(alloc)?));
     }
-    Ok(asked(alloc, raw, tree, key)?)
+    Ok(asked(alloc, account, raw, tree, key)?)
 }
 
-// What is asked by a request that was read from this form, where it has a key, or what is wrong with the key.
-fn asks(alloc: Global, raw: &Raw, tree: Form) -> Result<Option<Asked>, Refusal>
-    ensures asked { (call : Call) → IfOk result (λ asked. spec.keyed_request raw.now call tree (spec.key_of raw.now) ≡ Accepted call asked) }
+// What is asked by a request of an account that was read from this form, where it has a key, or what is wrong with the
+// key.
+fn asks(alloc: Global, account: u64, raw: &Raw, tree: Form) -> Result<Option<Asked>, Refusal>
+    ensures asked { (call : Call) → IfOk result (λ asked. spec.keyed_request account raw.now call tree (spec.key_of raw.now) ≡ Accepted account call asked) }
     ensures refused { (call : Call) → IfErr result (λ refusal. (error : ApiError) → refusal ≡ Api error
-        → spec.keyed_request raw.now call tree (spec.key_of raw.now) ≡ Refused error) }
+        → spec.keyed_request account raw.now call tree (spec.key_of raw.now) ≡ Refused error) }
 {
     match key_of(raw) {
         None => Ok(None),
-        Some(key) => match under(alloc, raw, tree, key) {
+        Some(key) => match under(alloc, account, raw, tree, key) {
             Ok(asked) => Ok(Some(asked)),
             Err(refusal) => Err(refusal),
         },
     }
 }
 
-// What a request of this call comes to that asks this, or whose key is refused.
-fn keyed(call: Call, given: Result<Option<Asked>, Refusal>) -> Result<Judged, NoMemory>
-    ensures { (judged : Judged) → IfOk given (λ asked. judged ≡ Accepted call asked)
+// What a request of this call by an account comes to that asks this, or whose key is refused.
+fn keyed(
+    account: u64,
+    call: Call,
+    given: Result<Option<Asked>, Refusal>,
+) -> Result<Judged, NoMemory>
+    ensures { (judged : Judged) → IfOk given (λ asked. judged ≡ Accepted account call asked)
         → IfErr given (λ refusal. (error : ApiError) → refusal ≡ Api error → judged ≡ Refused error) → IfOk result (λ made. made ≡ judged) }
 {
     match given {
-        Ok(asked) => Ok(Judged::Accepted(call, asked)),
+        Ok(asked) => Ok(Judged::Accepted(account, call, asked)),
         Err(Refusal::Api(error)) => Ok(Judged::Refused(error)),
         Err(Refusal::NoMemory) => Err(NoMemory),
     }
 }
 
-// What a request comes to whose credentials and account are in order.
-fn read(alloc: Global, raw: &Raw) -> Result<Judged, NoMemory>
-    ensures { IfOk result (λ judged. judged ≡ spec.read_request raw.now (reading_of raw.now)) }
+// What a request of an account comes to whose credentials are in order.
+fn read(alloc: Global, account: u64, raw: &Raw) -> Result<Judged, NoMemory>
+    ensures { IfOk result (λ judged. judged ≡ spec.read_request account raw.now (reading_of account raw.now)) }
 {
-    match read_call(alloc, raw) {
-        Ok(request) => keyed(request.call, asks(alloc, raw, request.form)),
+    match read_call(alloc, account, raw) {
+        Ok(request) => keyed(
+            account,
+            request.call,
+            asks(alloc, account, raw, request.form),
+        ),
         Err(Refusal::Api(error)) => Ok(Judged::Refused(error)),
         Err(Refusal::NoMemory) => Err(NoMemory),
     }
 }
 
-/// What the steps of a request before its own make of it, where this is the key of the setup: its credentials, its
-/// account, its path, its form, its parameters and its idempotency key are looked at in this order.
+/// What the steps of a request before its own make of it over the rows of a store, where this is the key of the setup:
+/// its credentials, its account, its path, its form, its parameters and its idempotency key are looked at in this order.
 #[tactic(auto, unfolding(crate::specs::Keys::request_of))]
-pub fn judge(alloc: Global, key: &Bytes, raw: &Raw) -> Result<Judged, NoMemory>
-    ensures { IfOk result (λ judged. judged ≡ spec.request_of key.now raw.now) }
+pub fn judge(alloc: Global, key: &Bytes, store: &Store, raw: &Raw) -> Result<Judged, NoMemory>
+    ensures { IfOk result (λ judged. judged ≡ spec.request_of key.now store.now.rows raw.now) }
 {
     if !is_key(key, &raw.auth) {
         return Ok(Judged::Refused(ApiError::invalid_api_key(alloc)?));
     }
-    if !is_platform(&raw.account) {
-        return Ok(Judged::Refused(ApiError::no_such_account(alloc)?));
+    match account_of(store, raw.account.as_ref()) {
+        Some(account) => read(alloc, account, raw),
+        None => Ok(Judged::Refused(ApiError::no_such_account(alloc)?)),
     }
-    read(alloc, raw)
 }

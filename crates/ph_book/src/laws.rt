@@ -29,8 +29,9 @@ pub fn balances_are_sums(_setup: &Setup, _history: &[Entry])
     ensures { BalancesAreSums (rows_of _setup.now _history.now) }
 {}
 
-/// What was captured of a charge is the sum of its transactions of type charge, what was refunded the sum of its
-/// refunds, and what can be captured of a payment intent is what is left of what was authorised of its charge.
+/// What was captured of a charge is the sum of its transactions of type charge or payment, what was refunded the sum of its
+/// refunds, what can be captured of a payment intent is what is left of what was authorised of its charge,
+/// and what a dispute has taken is what its transactions take.
 pub fn amounts_are_sums(setup: &Setup, _history: &[Entry])
     requires { IsLegal setup.now _history.now }
     ensures { AmountsAreSums (rows_of setup.now _history.now) }

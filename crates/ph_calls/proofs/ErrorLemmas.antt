@@ -20,10 +20,11 @@ use Rattle.ph_calls.specs.declared.call.CreateRefund.{CreateRefund}
 use Rattle.ph_calls.specs.declared.call.SetClock.{SetClock}
 use Rattle.ph_calls.specs.declared.row.Name.{Name}
 use Rattle.ph_calls.specs.declared.row.Name.TheVariants as name
+use Rattle.ph_calls.specs.Accounts.{create_account}
 use Rattle.ph_calls.specs.Check.{IsNoCall, first_that_holds, unless_error}
 use Rattle.ph_calls.specs.Clock.{set_clock, set_clock_error}
 use Rattle.ph_calls.specs.Disputes.{send_evidence}
-use Rattle.ph_calls.specs.Intents.{authenticate_intent, cancel_intent, capture_intent, confirm_intent, create_intent, create_intent_error, update_intent}
+use Rattle.ph_calls.specs.Intents.{authenticate_intent, cancel_intent, capture_intent, confirm_intent, connect_checks, create_intent, create_intent_error, update_intent}
 use Rattle.ph_calls.specs.Parameters.{Parameter, Must, May, Ignored, Takes, given, is_known, may, must, name_of, unknown_error, unless_flawed, unless_missing, with_value}
 use Rattle.ph_calls.specs.Reading.{as_call, call_of, checked, fault_of, form_of, reading_at, reading_by, reading_of}
 use Rattle.ph_calls.specs.Refunds.{create_refund, create_refund_error, is_zero, names_one}
@@ -125,12 +126,14 @@ unless_refused : {X : Type 0} (error : Option ApiError) (made : Result X ApiErro
 unless_refused None made e h = h
 unless_refused (Some error) made e h = e
 
-create_refused : (c : CreateIntent) → IfSome (create_intent_error c) IsNoCall
-create_refused c =
+create_refused : (account : ℕ) (c : CreateIntent) → IfSome (create_intent_error account c) IsNoCall
+create_refused account c =
     let checks : List (Bool × ApiError) =
     (nat_lt c.amount (terms_of c.currency).minimum, error_of AmountTooSmall) ∷
-    (c.confirm && is_none c.payment_method, error_of (ParameterMissing (codes "payment_method"))) ∷ [] in
-    let all : AllNoCall checks = (small_error, (missing_error (codes "payment_method"), tt)) in
+    (c.confirm && is_none c.payment_method, error_of (ParameterMissing (codes "payment_method"))) ∷ connect_checks account c in
+    let of_fee = value_error (codes "application_fee_amount") in
+    let all : AllNoCall checks =
+    (small_error, (missing_error (codes "payment_method"), (of_fee, (of_fee, (value_error (codes "transfer_data[destination]"), tt))))) in
     checks_refused checks all
 
 refund_refused : (c : CreateRefund) → IfSome (create_refund_error c) IsNoCall
@@ -156,30 +159,32 @@ checked_refused : {X : Type 0} (error : X → Option ApiError) (call : X → Cal
 checked_refused error call (Ok c) h e = unless_refused (error c) (Ok (call c)) (e c) tt
 checked_refused error call (Err refused) h e = h
 
-call_refused : (n : Name) (id : List ℕ) (leaves : List Leaf) → IfErr (call_of n id leaves) IsNoCall
-call_refused name.CreateIntent id leaves =
-    checked_refused create_intent_error call.CreateIntent (given (params_of name.CreateIntent) create_intent leaves)
-    (given_refused _ (params_of name.CreateIntent) create_intent leaves) create_refused
-call_refused name.UpdateIntent id leaves =
+call_refused : (account : ℕ) (n : Name) (id : List ℕ) (leaves : List Leaf) → IfErr (call_of account n id leaves) IsNoCall
+call_refused account name.CreateIntent id leaves =
+    checked_refused (create_intent_error account) call.CreateIntent (given (params_of name.CreateIntent) create_intent leaves)
+    (given_refused _ (params_of name.CreateIntent) create_intent leaves) (create_refused account)
+call_refused account name.UpdateIntent id leaves =
     as_refused call.UpdateIntent (given (params_of name.UpdateIntent) (update_intent id) leaves) (given_refused _ (params_of name.UpdateIntent) (update_intent id) leaves)
-call_refused name.ConfirmIntent id leaves =
+call_refused account name.ConfirmIntent id leaves =
     as_refused call.ConfirmIntent (given (params_of name.ConfirmIntent) (confirm_intent id) leaves) (given_refused _ (params_of name.ConfirmIntent) (confirm_intent id) leaves)
-call_refused name.CaptureIntent id leaves =
+call_refused account name.CaptureIntent id leaves =
     as_refused call.CaptureIntent (given (params_of name.CaptureIntent) (capture_intent id) leaves) (given_refused _ (params_of name.CaptureIntent) (capture_intent id) leaves)
-call_refused name.CancelIntent id leaves =
+call_refused account name.CancelIntent id leaves =
     as_refused call.CancelIntent (given (params_of name.CancelIntent) (cancel_intent id) leaves) (given_refused _ (params_of name.CancelIntent) (cancel_intent id) leaves)
-call_refused name.CreateRefund id leaves =
+call_refused account name.CreateRefund id leaves =
     checked_refused create_refund_error call.CreateRefund (given (params_of name.CreateRefund) create_refund leaves)
     (given_refused _ (params_of name.CreateRefund) create_refund leaves) refund_refused
-call_refused name.SendEvidence id leaves =
+call_refused account name.SendEvidence id leaves =
     as_refused call.SendEvidence (given (params_of name.SendEvidence) (send_evidence id) leaves) (given_refused _ (params_of name.SendEvidence) (send_evidence id) leaves)
-call_refused name.CloseDispute id leaves = tt
-call_refused (name.Retrieve kind) id leaves = tt
-call_refused name.GetBalance id leaves = tt
-call_refused name.SetClock id leaves =
+call_refused account name.CloseDispute id leaves = tt
+call_refused account name.CreateAccount id leaves =
+    as_refused call.CreateAccount (given (params_of name.CreateAccount) create_account leaves) (given_refused _ (params_of name.CreateAccount) create_account leaves)
+call_refused account (name.Retrieve kind) id leaves = tt
+call_refused account name.GetBalance id leaves = tt
+call_refused account name.SetClock id leaves =
     checked_refused set_clock_error call.SetClock (given (params_of name.SetClock) set_clock leaves)
     (given_refused _ (params_of name.SetClock) set_clock leaves) clock_refused
-call_refused name.Authenticate id leaves =
+call_refused account name.Authenticate id leaves =
     as_refused call.Authenticate (given (params_of name.Authenticate) (authenticate_intent id) leaves) (given_refused _ (params_of name.Authenticate) (authenticate_intent id) leaves)
 
 -- a name that no parameter has
@@ -187,16 +192,16 @@ unknown_refused : (found : Option Leaf) → IfSome (option_map (λ (leaf : Leaf)
 unknown_refused None = tt
 unknown_refused (Some leaf) = unknown_name_error leaf.name
 
-by_refused : (n : Name) (id : List ℕ) (form : Result (List Leaf) FormFault) → IfErr (reading_by n id form) IsNoCall
-by_refused n id (Err fault) = fault_error fault
-by_refused n id (Ok leaves) =
-    unless_refused (unknown_error (map name_of (params_of n)) leaves) (call_of n id leaves)
-    (unknown_refused (find (λ (leaf : Leaf). not (is_known (map name_of (params_of n)) leaf.name)) leaves)) (call_refused n id leaves)
+by_refused : (account : ℕ) (n : Name) (id : List ℕ) (form : Result (List Leaf) FormFault) → IfErr (reading_by account n id form) IsNoCall
+by_refused account n id (Err fault) = fault_error fault
+by_refused account n id (Ok leaves) =
+    unless_refused (unknown_error (map name_of (params_of n)) leaves) (call_of account n id leaves)
+    (unknown_refused (find (λ (leaf : Leaf). not (is_known (map name_of (params_of n)) leaf.name)) leaves)) (call_refused account n id leaves)
 
-at_refused : (route : Route) (form : Result (List Leaf) FormFault) → IfErr (reading_at route form) IsNoCall
-at_refused Nowhere form = url_error
-at_refused (To line id) form = by_refused line.call id form
+at_refused : (account : ℕ) (route : Route) (form : Result (List Leaf) FormFault) → IfErr (reading_at account route form) IsNoCall
+at_refused account Nowhere form = url_error
+at_refused account (To line id) form = by_refused account line.call id form
 
 -- whatever a request says, the error that it is refused by
-pub reading_refused : (raw : Raw) → IfErr (reading_of raw) IsNoCall
-reading_refused raw = at_refused (route_in table raw.method raw.path) (form_of raw)
+pub reading_refused : (account : ℕ) (raw : Raw) → IfErr (reading_of account raw) IsNoCall
+reading_refused account raw = at_refused account (route_in table raw.method raw.path) (form_of raw)

@@ -34,6 +34,7 @@ use Rattle.ph_calls.specs.declared.call.Call.TheVariants as call
 use Rattle.ph_calls.specs.declared.call.SetClock.{SetClock}
 use Rattle.ph_calls.specs.declared.row.Name.{Name}
 use Rattle.ph_calls.specs.declared.row.Name.TheVariants as name
+use Rattle.ph_calls.specs.Accounts.{create_account}
 use Rattle.ph_calls.specs.Check.{unless_error}
 use Rattle.ph_calls.specs.Clock.{set_clock, set_clock_error}
 use Rattle.ph_calls.specs.Disputes.{send_evidence}
@@ -140,6 +141,7 @@ text_value_utf8 kind.Metadata text u = at (length text == 0)
     at false = tt
 text_value_utf8 kind.Events text u = tt
 text_value_utf8 kind.Address text u = always (text_value kind.Address text)
+text_value_utf8 kind.AccountType text u = always (text_value kind.AccountType text)
 text_value_utf8 kind.CaptureMethod text u = always (text_value kind.CaptureMethod text)
 text_value_utf8 kind.CancellationReason text u = always (text_value kind.CancellationReason text)
 text_value_utf8 kind.RefundReason text u = always (text_value kind.RefundReason text)
@@ -255,44 +257,48 @@ clock_fit c = at (nat_lt clock_limit c.now) refl
     at true e = tt
     at false e = record { texts = refl; shown = within clock_limit c.now e }
 
-call_fit : (n : Name) (id : List ℕ) (leaves : List Leaf) → AreLeavesUtf8 leaves → IfOk (call_of n id leaves) IsFit
-call_fit name.CreateIntent id leaves w =
-    checked_fit create_intent_error call.CreateIntent (given (params_of name.CreateIntent) create_intent leaves)
+call_fit : (account : ℕ) (n : Name) (id : List ℕ) (leaves : List Leaf) → AreLeavesUtf8 leaves → IfOk (call_of account n id leaves) IsFit
+call_fit account name.CreateIntent id leaves w =
+    checked_fit (create_intent_error account) call.CreateIntent (given (params_of name.CreateIntent) create_intent leaves)
     (given_holds (params_of name.CreateIntent) create_intent (λ c. IsFit (call.CreateIntent c)) leaves w
-    (λ amount _ currency _ method m confirm _ capture _ description d meta t group g.
+    (λ amount _ currency _ method m confirm _ capture _ description d meta t fee _ destination _ group g.
     record { texts = intent_texts_utf8 method description meta group m d t g; shown = tt }))
-call_fit name.UpdateIntent id leaves w =
+call_fit account name.UpdateIntent id leaves w =
     as_call_fit call.UpdateIntent (given (params_of name.UpdateIntent) (update_intent id) leaves)
     (given_holds (params_of name.UpdateIntent) (update_intent id) (λ c. IsFit (call.UpdateIntent c)) leaves w
-    (λ amount _ currency _ method m description d meta t group g.
+    (λ amount _ currency _ method m description d meta t fee _ group g.
     record { texts = intent_texts_utf8 method description meta group m d t g; shown = tt }))
-call_fit name.ConfirmIntent id leaves w =
+call_fit account name.ConfirmIntent id leaves w =
     as_call_fit call.ConfirmIntent (given (params_of name.ConfirmIntent) (confirm_intent id) leaves)
     (given_holds (params_of name.ConfirmIntent) (confirm_intent id) (λ c. IsFit (call.ConfirmIntent c)) leaves w
     (λ method m. record { texts = with_utf8 (method_text method) [] (method_text_utf8 method m) refl; shown = tt }))
-call_fit name.CaptureIntent id leaves w =
+call_fit account name.CaptureIntent id leaves w =
     as_call_fit call.CaptureIntent (given (params_of name.CaptureIntent) (capture_intent id) leaves)
     (given_holds (params_of name.CaptureIntent) (capture_intent id) (λ c. IsFit (call.CaptureIntent c)) leaves w
-    (λ amount _. record { texts = refl; shown = tt }))
-call_fit name.CancelIntent id leaves w =
+    (λ amount _ fee _. record { texts = refl; shown = tt }))
+call_fit account name.CancelIntent id leaves w =
     as_call_fit call.CancelIntent (given (params_of name.CancelIntent) (cancel_intent id) leaves)
     (given_holds (params_of name.CancelIntent) (cancel_intent id) (λ c. IsFit (call.CancelIntent c)) leaves w
     (λ reason _. record { texts = refl; shown = tt }))
-call_fit name.CreateRefund id leaves w =
+call_fit account name.CreateRefund id leaves w =
     checked_fit create_refund_error call.CreateRefund (given (params_of name.CreateRefund) create_refund leaves)
     (given_holds (params_of name.CreateRefund) create_refund (λ c. IsFit (call.CreateRefund c)) leaves w
     (λ charge _ intent _ amount _ reason _ meta t. record { texts = metadata_texts_utf8 meta t; shown = tt }))
-call_fit name.SendEvidence id leaves w =
+call_fit account name.SendEvidence id leaves w =
     as_call_fit call.SendEvidence (given (params_of name.SendEvidence) (send_evidence id) leaves)
     (given_holds (params_of name.SendEvidence) (send_evidence id) (λ c. IsFit (call.SendEvidence c)) leaves w
     (λ text u. record { texts = and u refl; shown = tt }))
-call_fit name.CloseDispute id leaves w = record { texts = refl; shown = tt }
-call_fit (name.Retrieve kind) id leaves w = record { texts = refl; shown = tt }
-call_fit name.GetBalance id leaves w = record { texts = refl; shown = tt }
-call_fit name.SetClock id leaves w =
+call_fit account name.CloseDispute id leaves w = record { texts = refl; shown = tt }
+call_fit account name.CreateAccount id leaves w =
+    as_call_fit call.CreateAccount (given (params_of name.CreateAccount) create_account leaves)
+    (given_holds (params_of name.CreateAccount) create_account (λ c. IsFit (call.CreateAccount c)) leaves w
+    (λ type _ email e meta t. record { texts = with_utf8 email (named_texts meta) e (metadata_texts_utf8 meta t); shown = tt }))
+call_fit account (name.Retrieve kind) id leaves w = record { texts = refl; shown = tt }
+call_fit account name.GetBalance id leaves w = record { texts = refl; shown = tt }
+call_fit account name.SetClock id leaves w =
     with_value_holds (given (params_of name.SetClock) set_clock leaves) (checked set_clock_error call.SetClock) (λ c. Unit {0}) IsFit
     (always (given (params_of name.SetClock) set_clock leaves)) (λ c u. clock_fit c)
-call_fit name.Authenticate id leaves w =
+call_fit account name.Authenticate id leaves w =
     as_call_fit call.Authenticate (given (params_of name.Authenticate) (authenticate_intent id) leaves)
     (given_holds (params_of name.Authenticate) (authenticate_intent id) (λ c. IsFit (call.Authenticate c)) leaves w
     (λ outcome _. record { texts = refl; shown = tt }))
@@ -301,14 +307,14 @@ unless_refused : (error : Option ApiError) (made : Result Call ApiError) → IfO
 unless_refused None made fit = fit
 unless_refused (Some error) made fit = tt
 
-by_fit : (n : Name) (id : List ℕ) (form : Result (List Leaf) FormFault) → IfOk form AreLeavesUtf8 → IfOk (reading_by n id form) IsFit
-by_fit n id (Err fault) w = tt
-by_fit n id (Ok leaves) w = unless_refused _ (call_of n id leaves) (call_fit n id leaves w)
+by_fit : (account : ℕ) (n : Name) (id : List ℕ) (form : Result (List Leaf) FormFault) → IfOk form AreLeavesUtf8 → IfOk (reading_by account n id form) IsFit
+by_fit account n id (Err fault) w = tt
+by_fit account n id (Ok leaves) w = unless_refused _ (call_of account n id leaves) (call_fit account n id leaves w)
 
-at_fit : (route : Route) (form : Result (List Leaf) FormFault) → IfOk form AreLeavesUtf8 → IfOk (reading_at route form) IsFit
-at_fit Nowhere form w = tt
-at_fit (To line id) form w = by_fit line.call id form w
+at_fit : (account : ℕ) (route : Route) (form : Result (List Leaf) FormFault) → IfOk form AreLeavesUtf8 → IfOk (reading_at account route form) IsFit
+at_fit account Nowhere form w = tt
+at_fit account (To line id) form w = by_fit account line.call id form w
 
 -- whatever a request says, the call that it is read as
-pub reading_fit : (raw : Raw) → IfOk (reading_of raw) IsFit
-reading_fit raw = at_fit (route_in table raw.method raw.path) (form_of raw) (leaves_utf8 (unwrap_or raw.query []) raw.body)
+pub reading_fit : (account : ℕ) (raw : Raw) → IfOk (reading_of account raw) IsFit
+reading_fit account raw = at_fit account (route_in table raw.method raw.path) (form_of raw) (leaves_utf8 (unwrap_or raw.query []) raw.body)

@@ -1,3 +1,4 @@
+pub mod Accounts
 pub mod Check
 pub mod Parameters
 pub mod Table

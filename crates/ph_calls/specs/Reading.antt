@@ -12,6 +12,7 @@ use Rattle.ph_calls.specs.declared.row.Name.{Name}
 use Rattle.ph_calls.specs.declared.row.Name.TheVariants as name
 use Rattle.ph_calls.specs.declared.call.Call.{Call}
 use Rattle.ph_calls.specs.declared.call.Call.TheVariants as call
+use Rattle.ph_calls.specs.Accounts.{create_account}
 use Rattle.ph_calls.specs.Check.{unless_error}
 use Rattle.ph_calls.specs.Clock.{set_clock, set_clock_error}
 use Rattle.ph_calls.specs.Disputes.{send_evidence}
@@ -37,37 +38,38 @@ as_call call (Err error) = Err error
 abbrev pub checked : {X : Type 0} → (X → Option ApiError) → (X → Call) → X → Result Call ApiError
 checked error call made = unless_error (error made) (Ok (call made))
 
--- the call that an id and a form make, or the error of the first parameter, or further check, that has one
-abbrev pub call_of : Name → List ℕ → List Leaf → Result Call ApiError
-call_of name.CreateIntent id leaves =
-    with_value (given (params_of name.CreateIntent) create_intent leaves) (checked create_intent_error call.CreateIntent)
-call_of name.UpdateIntent id leaves = as_call call.UpdateIntent (given (params_of name.UpdateIntent) (update_intent id) leaves)
-call_of name.ConfirmIntent id leaves = as_call call.ConfirmIntent (given (params_of name.ConfirmIntent) (confirm_intent id) leaves)
-call_of name.CaptureIntent id leaves = as_call call.CaptureIntent (given (params_of name.CaptureIntent) (capture_intent id) leaves)
-call_of name.CancelIntent id leaves = as_call call.CancelIntent (given (params_of name.CancelIntent) (cancel_intent id) leaves)
-call_of name.CreateRefund id leaves =
+-- the call of an account that an id and a form make, or the error of the first parameter, or further check, that has one
+abbrev pub call_of : ℕ → Name → List ℕ → List Leaf → Result Call ApiError
+call_of account name.CreateIntent id leaves =
+    with_value (given (params_of name.CreateIntent) create_intent leaves) (checked (create_intent_error account) call.CreateIntent)
+call_of account name.UpdateIntent id leaves = as_call call.UpdateIntent (given (params_of name.UpdateIntent) (update_intent id) leaves)
+call_of account name.ConfirmIntent id leaves = as_call call.ConfirmIntent (given (params_of name.ConfirmIntent) (confirm_intent id) leaves)
+call_of account name.CaptureIntent id leaves = as_call call.CaptureIntent (given (params_of name.CaptureIntent) (capture_intent id) leaves)
+call_of account name.CancelIntent id leaves = as_call call.CancelIntent (given (params_of name.CancelIntent) (cancel_intent id) leaves)
+call_of account name.CreateRefund id leaves =
     with_value (given (params_of name.CreateRefund) create_refund leaves) (checked create_refund_error call.CreateRefund)
-call_of name.SendEvidence id leaves = as_call call.SendEvidence (given (params_of name.SendEvidence) (send_evidence id) leaves)
-call_of name.CloseDispute id leaves = Ok (call.CloseDispute (record { id = id }))
-call_of (name.Retrieve kind) id leaves = Ok (call.Retrieve (record { kind = kind; id = id }))
-call_of name.GetBalance id leaves = Ok (call.GetBalance (record {}))
-call_of name.SetClock id leaves = with_value (given (params_of name.SetClock) set_clock leaves) (checked set_clock_error call.SetClock)
-call_of name.Authenticate id leaves = as_call call.Authenticate (given (params_of name.Authenticate) (authenticate_intent id) leaves)
+call_of account name.SendEvidence id leaves = as_call call.SendEvidence (given (params_of name.SendEvidence) (send_evidence id) leaves)
+call_of account name.CloseDispute id leaves = Ok (call.CloseDispute (record { id = id }))
+call_of account name.CreateAccount id leaves = as_call call.CreateAccount (given (params_of name.CreateAccount) create_account leaves)
+call_of account (name.Retrieve kind) id leaves = Ok (call.Retrieve (record { kind = kind; id = id }))
+call_of account name.GetBalance id leaves = Ok (call.GetBalance (record {}))
+call_of account name.SetClock id leaves = with_value (given (params_of name.SetClock) set_clock leaves) (checked set_clock_error call.SetClock)
+call_of account name.Authenticate id leaves = as_call call.Authenticate (given (params_of name.Authenticate) (authenticate_intent id) leaves)
 
--- what a request of this call, with this id and form, is read as
-abbrev pub reading_by : Name → List ℕ → Result (List Leaf) FormFault → Result Call ApiError
-reading_by name id (Err fault) = Err (error_of (fault_of fault))
-reading_by name id (Ok leaves) = unless_error (unknown_error (map name_of (params_of name)) leaves) (call_of name id leaves)
+-- what a request of this call by an account, with this id and form, is read as
+abbrev pub reading_by : ℕ → Name → List ℕ → Result (List Leaf) FormFault → Result Call ApiError
+reading_by account name id (Err fault) = Err (error_of (fault_of fault))
+reading_by account name id (Ok leaves) = unless_error (unknown_error (map name_of (params_of name)) leaves) (call_of account name id leaves)
 
--- what a request with this route and form is read as
-abbrev pub reading_at : Route → Result (List Leaf) FormFault → Result Call ApiError
-reading_at Nowhere form = Err (error_of UnrecognizedUrl)
-reading_at (To line id) form = reading_by line.call id form
+-- what a request by an account with this route and form is read as
+abbrev pub reading_at : ℕ → Route → Result (List Leaf) FormFault → Result Call ApiError
+reading_at account Nowhere form = Err (error_of UnrecognizedUrl)
+reading_at account (To line id) form = reading_by account line.call id form
 
 -- the form of a request: that of its query and its body
 abbrev pub form_of : Raw → Result (List Leaf) FormFault
 form_of raw = leaves_of (pairs_in (unwrap_or raw.query []) raw.body)
 
--- what a request is read as: a call, or its first error
-abbrev pub reading_of : Raw → Result Call ApiError
-reading_of raw = reading_at (route_in table raw.method raw.path) (form_of raw)
+-- what a request by an account is read as: a call, or its first error
+abbrev pub reading_of : ℕ → Raw → Result Call ApiError
+reading_of account raw = reading_at account (route_in table raw.method raw.path) (form_of raw)

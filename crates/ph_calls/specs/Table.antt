@@ -1,9 +1,9 @@
 -- The table of calls.
 use Rattle.std.specs.Prelude.{ℕ, List, [], ◌∷◌, codes}
 use Rattle.ph_base.specs.declared.ids.Kind.TheVariants as object
-use Rattle.ph_kinds.specs.Kind.{Amount, Number, Currency, Truth, Text, Id, Method, Metadata, CaptureMethod, CancellationReason, RefundReason, Authentication}
+use Rattle.ph_kinds.specs.Kind.{Amount, Number, Currency, Truth, Text, Id, Method, Metadata, AccountType, CaptureMethod, CancellationReason, RefundReason, Authentication}
 use Rattle.ph_calls.specs.declared.row.Name.{Name}
-use Rattle.ph_calls.specs.declared.row.Name.TheVariants.{CreateIntent, UpdateIntent, ConfirmIntent, CaptureIntent, CancelIntent, CreateRefund, SendEvidence, CloseDispute, Retrieve, GetBalance, SetClock, Authenticate}
+use Rattle.ph_calls.specs.declared.row.Name.TheVariants.{CreateIntent, UpdateIntent, ConfirmIntent, CaptureIntent, CancelIntent, CreateRefund, SendEvidence, CloseDispute, CreateAccount, Retrieve, GetBalance, SetClock, Authenticate}
 use Rattle.ph_calls.specs.declared.row.Path.{Path}
 use Rattle.ph_calls.specs.declared.row.Path.TheVariants.{Plain, WithId}
 use Rattle.ph_calls.specs.declared.row.TableRow.{TableRow}
@@ -41,6 +41,10 @@ table =
     get (Between (codes "/v1/disputes/") []) (Retrieve object.Dispute) ∷
     post (Between (codes "/v1/disputes/") []) SendEvidence ∷
     post (Between (codes "/v1/disputes/") (codes "/close")) CloseDispute ∷
+    post (One (codes "/v1/accounts")) CreateAccount ∷
+    get (Between (codes "/v1/accounts/") []) (Retrieve object.Account) ∷
+    get (Between (codes "/v1/transfers/") []) (Retrieve object.Transfer) ∷
+    get (Between (codes "/v1/application_fees/") []) (Retrieve object.Fee) ∷
     get (One (codes "/v1/balance")) GetBalance ∷
     get (Between (codes "/v1/balance_transactions/") []) (Retrieve object.Txn) ∷
     post (One (codes "/_host/clock")) SetClock ∷
@@ -56,6 +60,8 @@ params_of CreateIntent =
     May (codes "capture_method") CaptureMethod ∷
     May (codes "description") (Text 1000) ∷
     May (codes "metadata") Metadata ∷
+    May (codes "application_fee_amount") Amount ∷
+    May (codes "transfer_data[destination]") Id ∷
     May (codes "transfer_group") (Text 255) ∷
     Ignored (codes "automatic_payment_methods") ∷
     Ignored (codes "payment_method_types") ∷
@@ -71,6 +77,7 @@ params_of UpdateIntent =
     May (codes "payment_method") Method ∷
     May (codes "description") (Text 1000) ∷
     May (codes "metadata") Metadata ∷
+    May (codes "application_fee_amount") Amount ∷
     May (codes "transfer_group") (Text 255) ∷ []
 params_of ConfirmIntent =
     May (codes "payment_method") Method ∷
@@ -78,7 +85,8 @@ params_of ConfirmIntent =
     Ignored (codes "off_session") ∷
     Ignored (codes "use_stripe_sdk") ∷ []
 params_of CaptureIntent =
-    May (codes "amount_to_capture") Amount ∷ []
+    May (codes "amount_to_capture") Amount ∷
+    May (codes "application_fee_amount") Amount ∷ []
 params_of CancelIntent =
     May (codes "cancellation_reason") CancellationReason ∷ []
 params_of CreateRefund =
@@ -91,6 +99,17 @@ params_of SendEvidence =
     Must (codes "evidence[uncategorized_text]") (Text 20000) ∷
     Ignored (codes "submit") ∷ []
 params_of CloseDispute = []
+params_of CreateAccount =
+    May (codes "type") AccountType ∷
+    May (codes "email") (Text 255) ∷
+    May (codes "metadata") Metadata ∷
+    Ignored (codes "country") ∷
+    Ignored (codes "capabilities") ∷
+    Ignored (codes "business_type") ∷
+    Ignored (codes "business_profile") ∷
+    Ignored (codes "tos_acceptance") ∷
+    Ignored (codes "controller") ∷
+    Ignored (codes "settings") ∷ []
 params_of (Retrieve kind) = []
 params_of GetBalance = []
 params_of SetClock =

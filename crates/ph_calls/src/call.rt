@@ -1,7 +1,7 @@
 //! The calls, each with what its request says.
 
 use ph_base::{Bytes, Kind};
-use ph_items::{CancellationReason, CaptureMethod, PaymentMethod, RefundReason};
+use ph_items::{AccountType, CancellationReason, CaptureMethod, PaymentMethod, RefundReason};
 use ph_kinds::{Authentication, Meta};
 use ph_money::{Amount, Currency};
 
@@ -18,6 +18,12 @@ pub struct CreateIntent {
     /// At most 1,000 characters.
     pub description: Option<Bytes>,
     pub metadata: Option<Meta>,
+    /// What the platform takes of it for itself, in minor units of the currency: not above the amount, and none where the
+    /// platform makes it without a destination.
+    pub application_fee_amount: Option<Amount>,
+    /// The parameter `transfer_data[destination]`, which is read as an id when the call is carried out: where what is
+    /// captured goes. None of a connected account's call.
+    pub destination: Option<Bytes>,
     /// At most 255 characters.
     pub transfer_group: Option<Bytes>,
 }
@@ -34,6 +40,8 @@ pub struct UpdateIntent {
     /// At most 1,000 characters.
     pub description: Option<Bytes>,
     pub metadata: Option<Meta>,
+    /// In minor units of the currency that results.
+    pub application_fee_amount: Option<Amount>,
     /// At most 255 characters.
     pub transfer_group: Option<Bytes>,
 }
@@ -54,6 +62,8 @@ pub struct CaptureIntent {
     pub id: Bytes,
     /// In minor units of the payment intent's currency; all that is capturable where none is named.
     pub amount_to_capture: Option<Amount>,
+    /// What the platform takes of it for itself, in place of what it would take; what it would take where none is named.
+    pub application_fee_amount: Option<Amount>,
 }
 
 /// `POST /v1/payment_intents/{id}/cancel`
@@ -91,6 +101,16 @@ pub struct SendEvidence {
 pub struct CloseDispute {
     /// The segment of the path, which is read as an id when the call is carried out.
     pub id: Bytes,
+}
+
+/// `POST /v1/accounts`: a connected account.
+#[derive(Drop)]
+pub struct CreateAccount {
+    /// The parameter `type`; `standard` where none is named.
+    pub sort: Option<AccountType>,
+    /// At most 255 characters.
+    pub email: Option<Bytes>,
+    pub metadata: Option<Meta>,
 }
 
 /// `GET` of an object, as `/v1/charges/{id}`: it is shown.
@@ -131,6 +151,7 @@ pub enum Call {
     CreateRefund(CreateRefund),
     SendEvidence(SendEvidence),
     CloseDispute(CloseDispute),
+    CreateAccount(CreateAccount),
     Retrieve(Retrieve),
     GetBalance(GetBalance),
     SetClock(SetClock),

@@ -1,7 +1,7 @@
 //! The calls on payment intents, each of an id and a form.
 ghost use Rattle.std.specs.Prelude.{◌≡◌, IfErr, IfOk, Ok};
 ghost use Rattle.ph_calls.specs.Check.{Refuses};
-ghost use Rattle.ph_calls.specs.Intents.{authenticate_intent, cancel_intent, capture_intent, confirm_intent, create_intent, create_intent_error, update_intent};
+ghost use Rattle.ph_calls.specs.Intents.{authenticate_intent, cancel_intent, capture_intent, confirm_intent, connect_error, create_intent, create_intent_error, is_fee_above, is_fee_of_nobody, is_passed_on, update_intent};
 ghost use Rattle.ph_calls.specs.Parameters.{given};
 ghost use Rattle.ph_calls.specs.Table.{params_of};
 
@@ -9,14 +9,20 @@ use crate::call::{
     Authenticate, CancelIntent, CaptureIntent, ConfirmIntent, CreateIntent, UpdateIntent,
 };
 use crate::params::{
-    amount, authentication, cancellation_reason, capture_method, currency, metadata, method,
+    amount, authentication, cancellation_reason, capture_method, currency, id, metadata, method,
     required, text, truth,
 };
 use crate::row::Name;
 use ph_base::{Bytes, NoMemory};
 use ph_errors::{ApiError, Refusal};
 use ph_form::Form;
+use ph_items::PLATFORM;
+use ph_money::Amount;
 use std::alloc::Global;
+
+const FEE_NAME: &[u8] = b"application_fee_amount";
+
+const DESTINATION_NAME: &[u8] = b"transfer_data[destination]";
 
 /// The create of a form; it isn't confirmed where nothing is said of that.
 #[tactic(auto, unfolding(crate::specs::Parameters::given))]
@@ -32,14 +38,65 @@ pub fn create_intent(alloc: Global, form: &Form) -> Result<CreateIntent, Refusal
         capture_method: capture_method(alloc, form, b"capture_method")?,
         description: text(alloc, form, b"description", 1000)?,
         metadata: metadata(alloc, form, b"metadata")?,
+        application_fee_amount: amount(alloc, form, b"application_fee_amount")?,
+        destination: id(alloc, form, b"transfer_data[destination]")?,
         transfer_group: text(alloc, form, b"transfer_group", 255)?,
     })
 }
 
+/// Whether an application fee that is named is above an amount.
+pub fn is_fee_above(fee: Option<Amount>, amount: Amount) -> bool
+    ensures { result ≡ is_fee_above fee amount }
+{
+    match fee {
+        Some(fee) => amount < fee,
+        None => false,
+    }
+}
+
+// Whether the platform names an application fee without a destination.
+fn is_fee_of_nobody(account: u64, call: &CreateIntent) -> bool
+    ensures { result ≡ is_fee_of_nobody account call.now }
+{
+    call.application_fee_amount.is_some() && account == PLATFORM && call.destination.is_none()
+}
+
+// Whether a connected account names a destination.
+fn is_passed_on(account: u64, call: &CreateIntent) -> bool
+    ensures { result ≡ is_passed_on account call.now }
+{
+    call.destination.is_some() && account != PLATFORM
+}
+
+// The error of the first of the further checks that fails which speak of an application fee and a destination.
+fn connect_error(
+    alloc: Global,
+    account: u64,
+    call: &CreateIntent,
+) -> Result<Option<ApiError>, NoMemory>
+    ensures { IfOk result (λ error. error ≡ connect_error account call.now) }
+{
+    if is_fee_above(call.application_fee_amount, call.amount) {
+        return Ok(Some(ApiError::invalid_value(alloc, FEE_NAME)?));
+    }
+    if is_fee_of_nobody(account, call) {
+        return Ok(Some(ApiError::invalid_value(alloc, FEE_NAME)?));
+    }
+    if is_passed_on(account, call) {
+        return Ok(Some(ApiError::invalid_value(alloc, DESTINATION_NAME)?));
+    }
+    Ok(None)
+}
+
 /// The error of the first further check that fails: an amount below the currency's minimum, then a confirm without a
-/// payment method.
-pub fn create_intent_error(alloc: Global, call: &CreateIntent) -> Result<Option<ApiError>, NoMemory>
-    ensures { IfOk result (λ error. error ≡ create_intent_error call.now) }
+/// payment method, an application fee above the amount, one of the platform without a destination, and a destination of a
+/// connected account.
+pub fn create_intent_error(
+    alloc: Global,
+    account: u64,
+    call: &CreateIntent,
+) -> Result<Option<ApiError>, NoMemory>
+    ensures { IfOk result (λ error. error ≡ create_intent_error account call.now) }
 {
     if call.amount < call.currency.minimum() {
         return Ok(Some(ApiError::amount_too_small(alloc)?));
@@ -47,7 +104,7 @@ pub fn create_intent_error(alloc: Global, call: &CreateIntent) -> Result<Option<
     if call.confirm && call.payment_method.is_none() {
         return Ok(Some(ApiError::parameter_missing(alloc, b"payment_method")?));
     }
-    Ok(None)
+    connect_error(alloc, account, call)
 }
 
 /// The update of the payment intent with this id, of a form.
@@ -63,6 +120,7 @@ pub fn update_intent(alloc: Global, id: &[u8], form: &Form) -> Result<UpdateInte
         payment_method: method(alloc, form, b"payment_method")?,
         description: text(alloc, form, b"description", 1000)?,
         metadata: metadata(alloc, form, b"metadata")?,
+        application_fee_amount: amount(alloc, form, b"application_fee_amount")?,
         transfer_group: text(alloc, form, b"transfer_group", 255)?,
     })
 }
@@ -88,6 +146,7 @@ pub fn capture_intent(alloc: Global, id: &[u8], form: &Form) -> Result<CaptureIn
     Ok(CaptureIntent {
         id: Bytes::from_slice(alloc, id)?,
         amount_to_capture: amount(alloc, form, b"amount_to_capture")?,
+        application_fee_amount: amount(alloc, form, b"application_fee_amount")?,
     })
 }
 

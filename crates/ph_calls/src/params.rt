@@ -8,11 +8,11 @@ use crate::errors::flaw_error;
 use ph_base::Bytes;
 use ph_errors::{ApiError, Refusal};
 use ph_form::Form;
-use ph_items::{CancellationReason, CaptureMethod, PaymentMethod, RefundReason};
+use ph_items::{AccountType, CancellationReason, CaptureMethod, PaymentMethod, RefundReason};
 use ph_kinds::{
-    Authentication, Flaw, Meta, amount_at, authentication_at, cancellation_reason_at,
-    capture_method_at, currency_at, id_at, metadata_at, number_at, payment_method_at,
-    refund_reason_at, text_at, truth_at,
+    Authentication, Flaw, Meta, account_type_at, amount_at, authentication_at,
+    cancellation_reason_at, capture_method_at, currency_at, id_at, metadata_at, number_at,
+    payment_method_at, refund_reason_at, text_at, truth_at,
 };
 use ph_money::{Amount, Currency};
 use std::alloc::Global;
@@ -102,6 +102,15 @@ pub fn metadata(alloc: Global, form: &Form, name: &[u8]) -> Result<Option<Meta>,
     ensures refusal { IfErr result (Refuses (may kind.Metadata name.now form.now)) }
 {
     unless_flawed(alloc, name, metadata_at(alloc, form, name))
+}
+
+/// The type of account under a name.
+#[tactic(auto, unfolding(crate::specs::Parameters::may))]
+pub fn account_type(alloc: Global, form: &Form, name: &[u8]) -> Result<Option<AccountType>, Refusal>
+    ensures value { IfOk result (λ value. may kind.AccountType name.now form.now ≡ Ok value) }
+    ensures refusal { IfErr result (Refuses (may kind.AccountType name.now form.now)) }
+{
+    unless_flawed(alloc, name, account_type_at(form, name))
 }
 
 /// The capture method under a name.

@@ -3,6 +3,7 @@ ghost use Rattle.std.specs.Prelude.{◌≡◌, IfErr, IfOk, Ok, Err};
 ghost use Rattle.ph_calls.specs.Check.{Refuses, unless_error};
 ghost use Rattle.ph_calls.specs.Reading.{call_of, form_of, reading_by, reading_of};
 
+use crate::accounts::create_account;
 use crate::call::{Call, CloseDispute, GetBalance, Retrieve};
 use crate::clock::{set_clock, set_clock_error};
 use crate::disputes::send_evidence;
@@ -41,15 +42,21 @@ fn unless_error(error: Option<ApiError>, call: Call) -> Result<Call, Refusal>
     }
 }
 
-/// The call of a name that an id and a form make, or the error of its first parameter, or further check, that has one.
-fn make_call(alloc: Global, name: Name, id: &[u8], form: &Form) -> Result<Call, Refusal>
-    ensures call { IfOk result (λ call. call_of name id.now form.now ≡ Ok call) }
-    ensures refusal { IfErr result (Refuses (call_of name id.now form.now)) }
+/// The call of a name by an account that an id and a form make, or the error of its first parameter, or further check, that has one.
+fn make_call(
+    alloc: Global,
+    account: u64,
+    name: Name,
+    id: &[u8],
+    form: &Form,
+) -> Result<Call, Refusal>
+    ensures call { IfOk result (λ call. call_of account name id.now form.now ≡ Ok call) }
+    ensures refusal { IfErr result (Refuses (call_of account name id.now form.now)) }
 {
     match name {
         Name::CreateIntent => {
             let call = create_intent(alloc, form)?;
-            let error = create_intent_error(alloc, &call)?;
+            let error = create_intent_error(alloc, account, &call)?;
             unless_error(error, Call::CreateIntent(call))
         }
         Name::UpdateIntent => Ok(Call::UpdateIntent(update_intent(alloc, id, form)?)),
@@ -65,6 +72,7 @@ fn make_call(alloc: Global, name: Name, id: &[u8], form: &Form) -> Result<Call, 
         Name::CloseDispute => Ok(Call::CloseDispute(CloseDispute {
             id: Bytes::from_slice(alloc, id)?,
         })),
+        Name::CreateAccount => Ok(Call::CreateAccount(create_account(alloc, form)?)),
         Name::Retrieve(kind) => Ok(Call::Retrieve(Retrieve {
             kind,
             id: Bytes::from_slice(alloc, id)?,
@@ -79,24 +87,24 @@ fn make_call(alloc: Global, name: Name, id: &[u8], form: &Form) -> Result<Call, 
     }
 }
 
-/// What a request of a call, with an id and a form, is read as.
-fn read_by(alloc: Global, name: Name, id: &[u8], form: &Form) -> Result<Call, Refusal>
-    ensures call { IfOk result (λ call. reading_by name id.now (Ok form.now) ≡ Ok call) }
-    ensures refusal { IfErr result (Refuses (reading_by name id.now (Ok form.now))) }
+/// What a request of a call by an account, with an id and a form, is read as.
+fn read_by(alloc: Global, account: u64, name: Name, id: &[u8], form: &Form) -> Result<Call, Refusal>
+    ensures call { IfOk result (λ call. reading_by account name id.now (Ok form.now) ≡ Ok call) }
+    ensures refusal { IfErr result (Refuses (reading_by account name id.now (Ok form.now))) }
 {
     match unknown_error(alloc, names_of(name), form)? {
         Some(error) => Err(Refusal::Api(error)),
-        None => make_call(alloc, name, id, form),
+        None => make_call(alloc, account, name, id, form),
     }
 }
 
-/// The call that a request is, and the form that it was read from. It is refused where no call has its method and path;
+/// The call that a request by an account is, and the form that it was read from. It is refused where no call has its method and path;
 /// else where its query and body are no form; else for the least name, in byte order, that isn't a parameter of the
 /// call; else for the first parameter that is missing or isn't of its kind; else by the call's further checks.
-pub fn read_call(alloc: Global, raw: &Raw) -> Result<Request, Refusal>
-    ensures call { IfOk result (λ request. reading_of raw.now ≡ Ok request.call) }
+pub fn read_call(alloc: Global, account: u64, raw: &Raw) -> Result<Request, Refusal>
+    ensures call { IfOk result (λ request. reading_of account raw.now ≡ Ok request.call) }
     ensures form { IfOk result (λ request. form_of raw.now ≡ Ok request.form) }
-    ensures refusal { IfErr result (Refuses (reading_of raw.now)) }
+    ensures refusal { IfErr result (Refuses (reading_of account raw.now)) }
 {
     match find_route(raw.method.as_slice(), raw.path.as_slice()) {
         None => Err(Refusal::Api(ApiError::unrecognized_url(alloc)?)),
@@ -107,7 +115,7 @@ pub fn read_call(alloc: Global, raw: &Raw) -> Result<Request, Refusal>
             };
             match read_form(alloc, query, raw.body.as_slice()) {
                 Ok(form) => {
-                    let call = read_by(alloc, row.call, id, &form)?;
+                    let call = read_by(alloc, account, row.call, id, &form)?;
                     Ok(Request { call, form })
                 }
                 Err(fault) => Err(Refusal::Api(fault_error(alloc, fault)?)),

@@ -13,6 +13,7 @@ pub enum Name {
     CreateRefund,
     SendEvidence,
     CloseDispute,
+    CreateAccount,
     /// It shows the object of this kind whose id stands in the path.
     Retrieve(Kind),
     GetBalance,

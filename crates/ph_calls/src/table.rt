@@ -24,7 +24,7 @@ macro_rules! row {
     };
 }
 
-static TABLE: [TableRow; 16] = [
+static TABLE: [TableRow; 20] = [
     row!(b"POST" b"/v1/payment_intents" => Name::CreateIntent),
     row!(b"GET" b"/v1/payment_intents/" id b"" => Name::Retrieve(Kind::Intent)),
     row!(b"POST" b"/v1/payment_intents/" id b"" => Name::UpdateIntent),
@@ -37,6 +37,10 @@ static TABLE: [TableRow; 16] = [
     row!(b"GET" b"/v1/disputes/" id b"" => Name::Retrieve(Kind::Dispute)),
     row!(b"POST" b"/v1/disputes/" id b"" => Name::SendEvidence),
     row!(b"POST" b"/v1/disputes/" id b"/close" => Name::CloseDispute),
+    row!(b"POST" b"/v1/accounts" => Name::CreateAccount),
+    row!(b"GET" b"/v1/accounts/" id b"" => Name::Retrieve(Kind::Account)),
+    row!(b"GET" b"/v1/transfers/" id b"" => Name::Retrieve(Kind::Transfer)),
+    row!(b"GET" b"/v1/application_fees/" id b"" => Name::Retrieve(Kind::Fee)),
     row!(b"GET" b"/v1/balance" => Name::GetBalance),
     row!(b"GET" b"/v1/balance_transactions/" id b"" => Name::Retrieve(Kind::Txn)),
     row!(b"POST" b"/_host/clock" => Name::SetClock),
@@ -49,6 +53,24 @@ pub fn rows() -> &'static [TableRow]
     ensures { map line_of result.now ≡ table }
 {
     &TABLE
+}
+
+// The names of the create of an account, in the same order.
+fn account_names() -> &'static [&'static [u8]]
+    ensures { map (λ name. name.now) result.now ≡ map name_of (params_of Name.CreateAccount) }
+{
+    &[
+        b"type",
+        b"email",
+        b"metadata",
+        b"country",
+        b"capabilities",
+        b"business_type",
+        b"business_profile",
+        b"tos_acceptance",
+        b"controller",
+        b"settings",
+    ]
 }
 
 /// The names of a call's parameters, and behind them those that it accepts with anything below them and without effect.
@@ -64,6 +86,8 @@ pub fn names_of(call: Name) -> &'static [&'static [u8]]
             b"capture_method",
             b"description",
             b"metadata",
+            b"application_fee_amount",
+            b"transfer_data[destination]",
             b"transfer_group",
             b"automatic_payment_methods",
             b"payment_method_types",
@@ -80,6 +104,7 @@ pub fn names_of(call: Name) -> &'static [&'static [u8]]
             b"payment_method",
             b"description",
             b"metadata",
+            b"application_fee_amount",
             b"transfer_group",
         ],
         Name::ConfirmIntent => &[
@@ -88,7 +113,7 @@ pub fn names_of(call: Name) -> &'static [&'static [u8]]
             b"off_session",
             b"use_stripe_sdk",
         ],
-        Name::CaptureIntent => &[b"amount_to_capture"],
+        Name::CaptureIntent => &[b"amount_to_capture", b"application_fee_amount"],
         Name::CancelIntent => &[b"cancellation_reason"],
         Name::CreateRefund => &[
             b"charge",
@@ -98,6 +123,7 @@ pub fn names_of(call: Name) -> &'static [&'static [u8]]
             b"metadata",
         ],
         Name::SendEvidence => &[b"evidence[uncategorized_text]", b"submit"],
+        Name::CreateAccount => account_names(),
         Name::SetClock => &[b"now"],
         Name::Authenticate => &[b"outcome"],
         Name::CloseDispute | Name::Retrieve(_) | Name::GetBalance => &[],

@@ -1,7 +1,9 @@
 -- Batches stay under way with an approval, a decline and a capture.
-use Rattle.std.proofs.Common.{◌≡◌, ℕ, ◌+◌, ◌^◌, ◌≤◌, ◌<◌, true, List, [], ◌∷◌, ◌++◌, Some, length, refl, sym, ap, ◌∙◌, subst, arith}
+use Rattle.std.specs.Prelude.{◌&&◌, neg_ℤ}
+use Rattle.std.proofs.Common.{◌≡◌, ℕ, ℤ, pos, ◌+◌, ◌^◌, ◌≤◌, ◌<◌, Bool, true, false, List, [], ◌∷◌, ◌++◌, Option, None, Some, length, refl, sym, ap, ◌∙◌, subst, arith}
 use Rattle.std.specs.List.{list_all}
 use Rattle.std.specs.Str.{is_utf8}
+use Rattle.std.proofs.lemmas.Bool.{false≢true}
 use Rattle.std.proofs.lemmas.List.{length-append, append_assoc}
 use Rattle.ph_base.specs.declared.ids.Kind.{Kind}
 use Rattle.ph_base.specs.declared.ids.Kind.TheVariants as kind
@@ -14,53 +16,263 @@ use Rattle.ph_items.specs.declared.event_kinds.EventKind.TheVariants as event
 use Rattle.ph_items.specs.declared.intents.CaptureMethod.{CaptureMethod}
 use Rattle.ph_items.specs.declared.intents.CaptureMethod.TheVariants as capture_method
 use Rattle.ph_items.specs.declared.intents.Intent.{Intent}
+use Rattle.ph_items.specs.declared.transactions.TxnSource.{TxnSource}
+use Rattle.ph_items.specs.declared.transactions.TxnSource.TheVariants as source
+use Rattle.ph_items.specs.declared.transactions.TxnType.{TxnType}
+use Rattle.ph_items.specs.declared.transactions.TxnType.TheVariants as sort
+use Rattle.ph_items.specs.Accounts.{platform}
 use Rattle.ph_items.specs.Charges.{charge_kind}
+use Rattle.ph_items.specs.Transactions.{source_kind, source_number}
+use Rattle.ph_money.specs.Fees.{fee_of}
 use Rattle.ph_items.specs.Kinds.{kind_of}
-use Rattle.ph_items.specs.Weights.{texts_of}
+use Rattle.ph_items.specs.Weights.{metadata_texts, method_text, texts_of, with_text}
 use Rattle.ph_items.specs.Words.{subject_of}
 use Rattle.ph_rows.specs.declared.rows.Row.{Row}
-use Rattle.ph_rows.specs.Batches.{BatchState, next_row, with_row, with_announced}
+use Rattle.ph_rows.specs.Batches.{BatchState, last_place, next_row, with_row, with_announced}
 use Rattle.ph_rows.specs.Rows.{row_at, latest_of}
 use Rattle.ph_rows.specs.Views.{ViewState}
+use Rattle.ph_rows.proofs.RowLemmas.{row_at-next}
 use Rattle.ph_facts.specs.Order.{IsInOrder, IsWithin, MayFollow}
 use Rattle.ph_facts.specs.Origins.{HasOrigins, IsOrigin, origins_of}
 use Rattle.ph_facts.specs.Sound.{IsSound}
 use Rattle.ph_facts.proofs.BatchLemmas.{first_may_follow, further_may_follow, with_batch}
 use Rattle.ph_facts.proofs.FollowLemmas.{MayStand}
-use Rattle.ph_facts.proofs.OrderLemmas.{amounts_stand, origins_stand, texts_stand}
-use Rattle.ph_facts.proofs.OriginLemmas.{has_begun_origin, have_begun-before}
+use Rattle.ph_facts.proofs.EnterLemmas.{row_told}
+use Rattle.ph_facts.proofs.OrderLemmas.{amounts_stand, order_with_all, origins_stand, texts_stand}
+use Rattle.ph_facts.proofs.OriginLemmas.{has_begun_origin, has_begun_still, have_begun-before}
 use Rattle.ph_facts.proofs.SoundLemmas.{latest_of_sound}
-use Rattle.ph_facts.proofs.UnderwayLemmas.{IsUnderway, underway_first, underway_told, underway_with}
+use Rattle.ph_facts.proofs.UnderwayLemmas.{IsUnderway, underway_announced, underway_first, underway_told, underway_with}
 use Rattle.ph_charges.specs.Approvals.{approval_of, charge_number, decline_of, with_approved}
-use Rattle.ph_charges.specs.Charges.{captured_charge, new_charge, next_capture, with_captured}
-use Rattle.ph_charges.specs.Splits.{charge_txn}
+use Rattle.ph_charges.specs.Charges.{captured_charge, new_charge, next_capture, with_captured, with_fee}
+use Rattle.ph_charges.specs.Splits.{SplitRow, charge_row, destination_split, fee_rows, fee_taken, split_fee, split_payment, split_rows, split_transfer, split_txn, with_split}
+use Rattle.ph_charges.proofs.SplitLemmas.{by_fee, by_kind, captured_has, captured_row, place_after, rows_few}
 
--- the row of a charge of which an amount is captured
-abbrev captured_row : ℕ → ℕ → Charge → ℕ → BatchState → Row
-captured_row account object charge amount batch =
-    next_row batch object account (item.Charge (captured_charge amount (next_capture charge batch) charge))
+-- ---- the rows of a split may stand, one after another
 
--- a batch stays under way with a version of a card charge that may follow its rows, what is told of it, and its split
+-- an object of a kind has begun among rows
+abbrev Begun : List Row → Kind → ℕ → Type 0
+Begun rows kind number = IsOrigin (row_at number rows) (record { kind = kind; number = number })
+
+-- the batch with a row more, the first version of a new object
+abbrev after : BatchState → SplitRow → BatchState
+after batch row = with_row batch (last_place batch + 1) row.account row.item
+
+-- an object has begun with a row more
+still_begun : (rows : List Row) (batch : BatchState) (row : SplitRow) (kind : Kind) (number : ℕ)
+    → Begun (rows ++ batch.rows) kind number → Begun (rows ++ (after batch row).rows) kind number
+still_begun rows batch row kind number begun =
+    let new = next_row batch (last_place batch + 1) row.account row.item in
+    subst (λ (all : List Row). Begun all kind number) (append_assoc rows batch.rows (new ∷ []))
+    (has_begun_still (rows ++ batch.rows) (new ∷ []) (record { kind = kind; number = number }) begun)
+
+-- and the object of that row has, where it has this number
+last_begun : (rows : List Row) (batch : BatchState) (row : SplitRow) (number : ℕ) → batch.began ≡ length rows
+    → last_place batch + 1 ≡ number → Begun (rows ++ (after batch row).rows) (kind_of row.item) number
+last_begun rows batch row number began is =
+    let new = next_row batch (last_place batch + 1) row.account row.item in
+    let count : length (rows ++ batch.rows) ≡ length rows + length batch.rows = length-append rows batch.rows in
+    let place : number ≡ length (rows ++ batch.rows) + 1 = omega arith in
+    subst (λ (all : List Row). Begun all (kind_of row.item) number) (append_assoc rows batch.rows (new ∷ []))
+    (subst (λ (found : Option Row). IsOrigin found (record { kind = kind_of row.item; number = number }))
+    (sym (ap (λ (p : ℕ). row_at p ((rows ++ batch.rows) ++ new ∷ [])) place ∙ row_at-next (rows ++ batch.rows) new))
+    (record { object = is; kind = refl }))
+
+-- the number behind a row
+next_number : (batch : BatchState) (row : SplitRow) (number : ℕ) → last_place batch + 1 ≡ number
+    → last_place (after batch row) + 1 ≡ number + 1
+next_number batch row number is =
+    let longer = place_after batch (last_place batch + 1) row.account row.item in omega arith
+
+-- a transaction may stand where its source has begun
+txn_stands : (rows : List Row) (charge : Charge) (sort : TxnType) (amount : ℤ) (fee : ℕ) (from : TxnSource) (now : ℕ)
+    → Begun rows (source_kind from) (source_number from) → MayStand rows (item.Txn (split_txn charge sort amount fee from now))
+txn_stands rows charge sort amount fee from now begun =
+    record { texts = refl; within = tt; origins = (begun, tt); silent = λ event is. absurd (cc) }
+
+-- the rows of a split may stand behind a batch
+abbrev AllStand : ViewState → BatchState → List SplitRow → Type 0
+AllStand state batch [] = Unit {0}
+AllStand state batch (row ∷ split) = MayStand (state.rows ++ batch.rows) row.item × AllStand state (after batch row) split
+
+-- an application fee, where one is taken
+fees_stand : (state : ViewState) (batch : BatchState) (place account object : ℕ) (charge : Charge) (taken now : ℕ)
+    → batch.began ≡ length state.rows → last_place batch + 1 ≡ place → Begun (state.rows ++ batch.rows) kind.Charge object
+    → AllStand state batch (fee_rows place account object charge taken now)
+fees_stand state batch place account object charge taken now began is begun =
+    by_fee (AllStand state batch) place account object charge taken now tt (
+      record { texts = refl; within = tt; origins = (begun, tt); silent = λ event same. absurd (cc) },
+      (
+        txn_stands (state.rows ++ (after batch fee).rows) charge sort.ApplicationFee (pos taken) 0 (source.Fee place) now
+            (last_begun state.rows batch fee place began is),
+        tt,
+      ),
+    )
+  where
+    fee : SplitRow
+    fee = record { account = platform; item = item.Fee (split_fee place account object charge taken now) }
+
+-- the texts of a charge are UTF-8, and so is its transfer group
+both : (a b : Bool) → (a && b) ≡ true → (a ≡ true) × (b ≡ true)
+both true b h = (refl, h)
+both false b h = absurd (false≢true h)
+
+front_text : (text : Option (List ℕ)) (texts : List (List ℕ)) → list_all is_utf8 (with_text text texts) ≡ true
+    → (list_all is_utf8 (with_text text []) ≡ true) × (list_all is_utf8 texts ≡ true)
+front_text None texts h = (refl, h)
+front_text (Some text) texts h =
+    let parts = both (is_utf8 text) (list_all is_utf8 texts) h in (ap (λ (b : Bool). b && true) parts.0, parts.1)
+
+group_utf8 : (charge : Charge) → list_all is_utf8 (texts_of (item.Charge charge)) ≡ true
+    → list_all is_utf8 (with_text charge.transfer_group []) ≡ true
+group_utf8 charge texts =
+    let metadata = metadata_texts charge.metadata in
+    let one = front_text (method_text charge.payment_method) (with_text charge.description (with_text charge.transfer_group metadata)) texts in
+    let two = front_text charge.description (with_text charge.transfer_group metadata) one.1 in
+    (front_text charge.transfer_group metadata two.1).0
+
+-- the rows of each kind of a split, behind a batch whose next place is this, where the charge has begun
+splits_stand : (state : ViewState) (batch : BatchState) (place account object : ℕ) (charge : Charge) (amount now : ℕ)
+    → batch.began ≡ length state.rows → last_place batch + 1 ≡ place → Begun (state.rows ++ batch.rows) kind.Charge object
+    → list_all is_utf8 (texts_of (item.Charge charge)) ≡ true
+    → AllStand state batch (split_rows place account object charge amount now)
+splits_stand state batch place account object charge amount now began is begun texts =
+    by_kind (AllStand state batch) place account object charge amount now
+    (first (fee_of charge.currency amount), tt) (
+      first (fee_of charge.currency amount + fee_taken charge amount),
+      fees_stand state (after batch (row (fee_of charge.currency amount + fee_taken charge amount))) (place + 1) account object charge
+          (fee_taken charge amount) now began (next_number batch (row (fee_of charge.currency amount + fee_taken charge amount)) place is)
+          (still_begun state.rows batch (row (fee_of charge.currency amount + fee_taken charge amount)) kind.Charge object begun),
+    )
+    to
+  where
+    row : ℕ → SplitRow
+    row kept = charge_row account object charge amount kept now
+
+    first : (kept : ℕ) → MayStand (state.rows ++ batch.rows) (row kept).item
+    first kept = txn_stands (state.rows ++ batch.rows) charge sort.Charge (pos amount) kept (source.Charge object) now begun
+
+    to : (destination : ℕ) → AllStand state batch (destination_split place destination account object charge amount now)
+    to destination = (
+      first (fee_of charge.currency amount),
+      (
+        record { texts = group_utf8 charge texts; within = tt; origins = (begun1, tt); silent = λ event same. absurd (cc) },
+        (
+          txn_stands (state.rows ++ b2.rows) charge sort.Transfer (neg_ℤ (pos amount)) 0 (source.Transfer (place + 1)) now transfer_begun,
+          (
+            record { texts = refl; within = record { captured = omega arith; refunded = omega arith }; origins = (still_begun state.rows b2 r2 kind.Transfer (place + 1) transfer_begun, tt); silent = λ event same. absurd (cc) },
+            (
+              txn_stands (state.rows ++ b4.rows) charge sort.Payment (pos amount) (fee_taken charge amount) (source.Payment (place + 3)) now
+                  (last_begun state.rows b3 r3 (place + 3) began n3),
+              fees_stand state b5 (place + 5) destination object charge (fee_taken charge amount) now began n5 begun5,
+            ),
+          ),
+        ),
+      ),
+    )
+      where
+        r0 : SplitRow
+        r0 = row (fee_of charge.currency amount)
+
+        r1 : SplitRow
+        r1 = record { account = platform; item = item.Transfer (split_transfer (place + 1) destination object charge amount now) }
+
+        r2 : SplitRow
+        r2 = record { account = platform; item = item.Txn (split_txn charge sort.Transfer (neg_ℤ (pos amount)) 0 (source.Transfer (place + 1)) now) }
+
+        r3 : SplitRow
+        r3 = record { account = destination; item = item.Charge (split_payment (place + 3) (place + 1) charge amount now) }
+
+        r4 : SplitRow
+        r4 = record { account = destination; item = item.Txn (split_txn charge sort.Payment (pos amount) (fee_taken charge amount) (source.Payment (place + 3)) now) }
+
+        b1 : BatchState
+        b1 = after batch r0
+
+        b2 : BatchState
+        b2 = after b1 r1
+
+        b3 : BatchState
+        b3 = after b2 r2
+
+        b4 : BatchState
+        b4 = after b3 r3
+
+        b5 : BatchState
+        b5 = after b4 r4
+
+        n1 : last_place b1 + 1 ≡ place + 1
+        n1 = next_number batch r0 place is
+
+        n3 : last_place b3 + 1 ≡ place + 3
+        n3 = let two = next_number b1 r1 (place + 1) n1 in let three = next_number b2 r2 (place + 1 + 1) two in omega arith
+
+        n5 : last_place b5 + 1 ≡ place + 5
+        n5 = let four = next_number b3 r3 (place + 3) n3 in let five = next_number b4 r4 (place + 3 + 1) four in omega arith
+
+        begun1 : Begun (state.rows ++ b1.rows) kind.Charge object
+        begun1 = still_begun state.rows batch r0 kind.Charge object begun
+
+        begun5 : Begun (state.rows ++ b5.rows) kind.Charge object
+        begun5 =
+            still_begun state.rows b4 r4 kind.Charge object (still_begun state.rows b3 r3 kind.Charge object
+            (still_begun state.rows b2 r2 kind.Charge object (still_begun state.rows b1 r1 kind.Charge object begun1)))
+
+        transfer_begun : Begun (state.rows ++ b2.rows) kind.Transfer (place + 1)
+        transfer_begun = last_begun state.rows b1 r1 (place + 1) began n1
+
+-- a batch stays under way with rows that may stand
+split_underway : (state : ViewState) (batch : BatchState) (split : List SplitRow) → IsInOrder state → IsUnderway state batch
+    → length state.rows + length batch.rows + length split < 10 ^ 16 → AllStand state batch split
+    → IsUnderway state (with_split split batch)
+split_underway state batch [] order underway few stand = underway
+split_underway state batch (row ∷ split) order underway few stand =
+    let new = next_row batch (last_place batch + 1) row.account row.item in
+    let longer : length (batch.rows ++ new ∷ []) ≡ length batch.rows + 1 = length-append batch.rows (new ∷ []) in
+    let count : length (row ∷ split) ≡ length split + 1 = omega arith in
+    split_underway state (after batch row) split order
+    (underway_first state batch row.account row.item order underway (omega arith) stand.0) (omega arith) stand.1
+
+-- a batch stays under way with a version of a card charge that may follow its rows, its split, and what is told of it
 captured_underway : (state : ViewState) (batch : BatchState) (account object : ℕ) (charge : Charge) (amount : ℕ) (sort : EventKind)
-    → IsInOrder state → IsUnderway state batch → length state.rows + length batch.rows + 2 < 10 ^ 16
+    → IsInOrder state → IsUnderway state batch → length state.rows + length batch.rows + 8 < 10 ^ 16
     → charge_kind charge.sort ≡ kind.Charge → kind.Charge ≡ subject_of sort
+    → list_all is_utf8 (texts_of (item.Charge charge)) ≡ true
     → MayFollow (with_batch state batch) (captured_row account object charge amount batch)
     → IsUnderway state (with_announced (with_captured account object charge amount batch) sort object)
-captured_underway state batch account object charge amount sort order underway few card subject follows =
-    let version = item.Charge (captured_charge amount (next_capture charge batch) charge) in
-    let told = with_announced (with_row batch object account version) sort object in
-    let longer : length told.rows ≡ length batch.rows + 1 =
-    length-append batch.rows (captured_row account object charge amount batch ∷ []) in
-    underway_first state told account (item.Txn (charge_txn object charge amount batch.at)) order
-    (underway_told state batch object account version sort (underway_with state batch object account version order underway follows) (card ∙ subject))
-    (omega arith) (record { texts = refl; within = tt; origins = (origin, tt); silent = λ event is. absurd (cc) })
+captured_underway state batch account object charge amount sort order underway few card subject texts follows =
+    underway_announced state captured sort object whole
+    (row_told state captured.rows (length batch.rows) row sort (order_with_all state captured.rows order whole.continues.follow)
+    (captured_has account object charge amount batch) (card ∙ subject))
   where
-    origin : IsOrigin (row_at object (state.rows ++ (batch.rows ++ captured_row account object charge amount batch ∷ []))) (record { kind = kind.Charge; number = object })
-    origin =
-        subst (λ (k : Kind). IsOrigin (row_at object (state.rows ++ (batch.rows ++ captured_row account object charge amount batch ∷ []))) (record { kind = k; number = object })) card
-        (subst (λ (rows : List Row). IsOrigin (row_at object rows) (record { kind = charge_kind charge.sort; number = object }))
-        (append_assoc state.rows batch.rows (captured_row account object charge amount batch ∷ []))
-        (has_begun_origin _ (captured_row account object charge amount batch) follows.begun))
+    row : Row
+    row = captured_row account object charge amount batch
+
+    begins : BatchState
+    begins = with_row batch object account row.item
+
+    captured : BatchState
+    captured = with_captured account object charge amount batch
+
+    underway1 : IsUnderway state begins
+    underway1 = underway_with state batch object account row.item order underway follows
+
+    next : last_place begins + 1 ≡ last_place batch + 2
+    next = let longer = place_after batch object account row.item in omega arith
+
+    begun : Begun (state.rows ++ begins.rows) kind.Charge object
+    begun =
+        subst (λ (k : Kind). Begun (state.rows ++ begins.rows) k object) card
+        (subst (λ (rows : List Row). Begun rows (charge_kind charge.sort) object)
+        (append_assoc state.rows batch.rows (row ∷ []))
+        (has_begun_origin _ row follows.begun))
+
+    whole : IsUnderway state captured
+    whole =
+        let longer : length (batch.rows ++ row ∷ []) ≡ length batch.rows + 1 = length-append batch.rows (row ∷ []) in
+        let most : length (split_rows (last_place batch + 2) account object charge amount batch.at) ≤ 7 =
+        rows_few (last_place batch + 2) account object charge amount batch.at in
+        split_underway state begins (split_rows (last_place batch + 2) account object charge amount batch.at) order underway1 (omega arith)
+        (splits_stand state begins (last_place batch + 2) account object charge amount batch.at underway.continues.began next begun texts)
 
 -- a charge of which nothing was captured or refunded
 pub record IsNew (charge : Charge) : Type 0 where
@@ -74,29 +286,29 @@ new_fits charge new =
     let refunded = new.refunded in
     record { captured = omega arith; refunded = omega arith }
 
-captured_fits : (charge : Charge) (amount : ℕ) (batch : BatchState) → charge.amount_refunded ≡ 0 → amount ≤ charge.amount
-    → IsWithin (captured_charge amount (next_capture charge batch) charge)
-captured_fits charge amount batch none within = record { captured = within; refunded = omega arith }
+captured_fits : (account : ℕ) (charge : Charge) (amount : ℕ) (batch : BatchState) → charge.amount_refunded ≡ 0 → amount ≤ charge.amount
+    → IsWithin (captured_charge amount (next_capture account charge amount batch) charge)
+captured_fits account charge amount batch none within = record { captured = within; refunded = omega arith }
 
 -- a new card charge that is approved, captured at once or held, and what is told of it
 approved_underway : (capture : CaptureMethod) (state : ViewState) (batch : BatchState) (account : ℕ) (charge : Charge)
-    → IsInOrder state → IsUnderway state batch → length state.rows + length batch.rows + 2 < 10 ^ 16
+    → IsInOrder state → IsUnderway state batch → length state.rows + length batch.rows + 8 < 10 ^ 16
     → charge_kind charge.sort ≡ kind.Charge → IsNew charge → MayStand (state.rows ++ batch.rows) (item.Charge charge)
     → IsUnderway state (with_announced (with_approved capture account (charge_number batch) charge batch) event.ChargeSucceeded (charge_number batch))
 approved_underway capture state batch account charge order underway few card new stands = at capture
   where
-    captured : MayStand (state.rows ++ batch.rows) (item.Charge (captured_charge charge.amount (next_capture charge batch) charge))
+    captured : MayStand (state.rows ++ batch.rows) (item.Charge (captured_charge charge.amount (next_capture account charge charge.amount batch) charge))
     captured = record {
       texts = stands.texts;
-      within = captured_fits charge charge.amount batch new.refunded (omega arith);
+      within = captured_fits account charge charge.amount batch new.refunded (omega arith);
       origins = stands.origins;
       silent = λ event is. absurd (cc);
     }
 
     whole : IsUnderway state (with_announced (with_captured account (charge_number batch) charge charge.amount batch) event.ChargeSucceeded (charge_number batch))
     whole =
-        captured_underway state batch account (charge_number batch) charge charge.amount event.ChargeSucceeded order underway few card refl
-        (first_may_follow state batch account (item.Charge (captured_charge charge.amount (next_capture charge batch) charge)) underway.continues
+        captured_underway state batch account (charge_number batch) charge charge.amount event.ChargeSucceeded order underway few card refl stands.texts
+        (first_may_follow state batch account (item.Charge (captured_charge charge.amount (next_capture account charge charge.amount batch) charge)) underway.continues
         (omega arith) captured)
 
     at : (capture : CaptureMethod)
@@ -120,7 +332,7 @@ new_stands rows object intent charge new texts origins = record {
 
 -- a batch stays under way with an approval of a payment intent that has begun
 pub approval_underway : (state : ViewState) (batch : BatchState) (account object : ℕ) (intent : Intent) → IsInOrder state
-    → IsUnderway state batch → length state.rows + length batch.rows + 2 < 10 ^ 16
+    → IsUnderway state batch → length state.rows + length batch.rows + 8 < 10 ^ 16
     → list_all is_utf8 (texts_of (item.Intent intent)) ≡ true
     → IsOrigin (row_at object (state.rows ++ batch.rows)) (record { kind = kind.Intent; number = object })
     → IsUnderway state (approval_of account object intent batch)
@@ -131,7 +343,7 @@ approval_underway state batch account object intent order underway few texts beg
 
 -- and with a decline
 pub decline_underway : (state : ViewState) (batch : BatchState) (account object : ℕ) (intent : Intent) → IsInOrder state
-    → IsUnderway state batch → length state.rows + length batch.rows + 2 < 10 ^ 16
+    → IsUnderway state batch → length state.rows + length batch.rows + 8 < 10 ^ 16
     → list_all is_utf8 (texts_of (item.Intent intent)) ≡ true
     → IsOrigin (row_at object (state.rows ++ batch.rows)) (record { kind = kind.Intent; number = object })
     → IsUnderway state (decline_of account object intent batch)
@@ -142,15 +354,15 @@ decline_underway state batch account object intent order underway few texts begu
     (new_stands (state.rows ++ batch.rows) object intent charge (record { captured = refl; refunded = refl }) texts (begun, tt))) refl
 
 -- and with a capture of a card charge that stands in the view, of which nothing was captured, of no more than was authorised
-pub capture_underway : (state : ViewState) (batch : BatchState) (n amount : ℕ) (row : Row) (charge : Charge) → IsSound state
-    → IsUnderway state batch → length state.rows + length batch.rows + 2 < 10 ^ 16
+pub capture_underway : (state : ViewState) (batch : BatchState) (n amount : ℕ) (fee : Option ℕ) (row : Row) (charge : Charge) → IsSound state
+    → IsUnderway state batch → length state.rows + length batch.rows + 8 < 10 ^ 16
     → latest_of n state.rows ≡ Some row → row.item ≡ item.Charge charge → charge_kind charge.sort ≡ kind.Charge
     → charge.amount_captured ≡ 0 → amount ≤ charge.amount
-    → IsUnderway state (with_announced (with_captured row.account n charge amount batch) event.ChargeCaptured n)
-capture_underway state batch n amount row charge sound underway few latest is card nothing within =
-    captured_underway state batch row.account n charge amount event.ChargeCaptured sound.order underway few card refl
-    (subst (λ (object : ℕ). MayFollow (with_batch state batch) (captured_row row.account object charge amount batch)) found.1
-    (further_may_follow state batch row (item.Charge (captured_charge amount (next_capture charge batch) charge)) sound.order
+    → IsUnderway state (with_announced (with_captured row.account n (with_fee fee charge) amount batch) event.ChargeCaptured n)
+capture_underway state batch n amount fee row charge sound underway few latest is card nothing within =
+    captured_underway state batch row.account n (with_fee fee charge) amount event.ChargeCaptured sound.order underway few card refl stands.texts
+    (subst (λ (object : ℕ). MayFollow (with_batch state batch) (captured_row row.account object (with_fee fee charge) amount batch)) found.1
+    (further_may_follow state batch row (item.Charge (captured_charge amount (next_capture row.account (with_fee fee charge) amount batch) (with_fee fee charge))) sound.order
     underway.continues found.0 (omega arith) stands
     (record { kind = ap kind_of (sym is); changes = refl })))
   where
@@ -162,10 +374,10 @@ capture_underway state batch n amount row charge sound underway few latest is ca
         let fits : IsWithin charge = amounts_stand state row (item.Charge charge) sound.order found.0 is in
         let refunded : charge.amount_refunded ≤ charge.amount_captured = fits.refunded in omega arith
 
-    stands : MayStand (state.rows ++ batch.rows) (item.Charge (captured_charge amount (next_capture charge batch) charge))
+    stands : MayStand (state.rows ++ batch.rows) (item.Charge (captured_charge amount (next_capture row.account (with_fee fee charge) amount batch) (with_fee fee charge)))
     stands = record {
       texts = texts_stand state row (item.Charge charge) sound.order found.0 is;
-      within = captured_fits charge amount batch none within;
+      within = captured_fits row.account (with_fee fee charge) amount batch none within;
       origins = have_begun-before state.rows batch.rows (origins_of (item.Charge charge)) (origins_stand state row (item.Charge charge) sound.order found.0 is);
       silent = λ event is. absurd (cc);
     }

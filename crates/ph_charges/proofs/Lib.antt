@@ -1,2 +1,5 @@
 pub mod EntryLemmas
+pub mod LawLemmas
+pub mod SplitLemmas
 pub mod SumLemmas
+pub mod TellLemmas

@@ -1,4 +1,6 @@
 pub mod Approvals
 pub mod Captures
 pub mod Charges
+pub mod Laws
 pub mod Splits
+pub mod Told

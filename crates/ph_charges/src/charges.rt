@@ -1,13 +1,17 @@
 //! The versions of a charge.
-ghost use Rattle.std.specs.Prelude.{◌≡◌, OnOk, IfOk};
+ghost use Rattle.std.specs.Prelude.{◌≡◌, ◌+◌, ◌<◌, ◌^◌, OnOk, IfOk};
+ghost use Rattle.ph_rows.specs.Batches.{last_place};
 ghost use Rattle.ph_charges.specs.Charges.{new_charge, with_captured};
 
-use crate::splits::{add_split, available_from, plain_split};
+use crate::splits::{add_split, split_capture};
 use ph_base::NoMemory;
-use ph_items::{Capture, Charge, ChargeSort, ChargeStatus, Intent, Item, copy_method, copy_text};
+use ph_items::{Charge, ChargeSort, ChargeStatus, Intent, Item, copy_method, copy_text};
 use ph_money::Amount;
 use ph_rows::Batch;
 use std::alloc::Global;
+
+// Places of rows are below this.
+const MOST_PLACES: u64 = 1 << 61;
 
 /// The charge of a payment intent on which the acquirer ruled, with a number: nothing of it is captured yet.
 pub fn new_charge(
@@ -26,12 +30,27 @@ pub fn new_charge(
         currency: intent.currency,
         status,
         payment_method: copy_method(alloc, intent.payment_method.as_ref())?,
+        application_fee_amount: intent.application_fee_amount,
+        destination: intent.destination,
         capture: None,
         dispute: None,
         description: copy_text(alloc, intent.description.as_ref())?,
         metadata: intent.metadata.copy(alloc)?,
         transfer_group: copy_text(alloc, intent.transfer_group.as_ref())?,
     })
+}
+
+// The place of the row behind the next one.
+fn second_place(batch: &Batch) -> Result<u64, NoMemory>
+    ensures place { IfOk result (λ place. place ≡ last_place batch.now + 2) }
+    ensures few { IfOk result (λ place. place < 2 ^ 62) }
+{
+    // No memory holds so many rows that 62 bits don't number them.
+    if batch.count() < MOST_PLACES {
+        Ok(batch.count() + 2)
+    } else {
+        Err(NoMemory)
+    }
 }
 
 /// Adds a version of a charge of which an amount is captured, and the split of it.
@@ -45,17 +64,10 @@ pub fn add_captured(
 ) -> Result<(), NoMemory>
     ensures { OnOk result (batch.new ≡ with_captured account object charge.now amount batch.old) }
 {
-    // No memory holds so many rows that 64 bits don't number them.
-    let Some(transaction) = batch.count().checked_add(2) else {
-        return Err(NoMemory);
-    };
+    let place = second_place(batch)?;
     let mut captured = charge.copy(alloc)?;
     captured.amount_captured = amount;
-    captured.capture = Some(Capture {
-        transaction,
-        available_on: available_from(&charge.payment_method, batch.at()),
-    });
+    captured.capture = Some(split_capture(place, account, charge, amount, batch.at()));
     batch.change(object, account, Item::Charge(captured))?;
-    let split = plain_split(alloc, account, object, charge, amount, batch.at())?;
-    add_split(split, batch)
+    add_split(alloc, place, account, object, charge, amount, batch)
 }

@@ -1,11 +1,15 @@
-//! What an approval, a decline and a capture add to the rows: the charge, and the transaction of what is captured.
+//! What an approval, a decline and a capture add to the rows: the charge, and the split of what is captured.
 #![tactic(auto)]
 
 mod approvals;
 mod captures;
 mod charges;
+mod laws;
+mod moments;
 mod splits;
+mod told;
 
 pub use approvals::{approve, decline};
-pub use captures::capture;
-pub use splits::{SplitRow, split};
+pub use captures::{capture, fee_or};
+pub use laws::splits_are_whole;
+pub use told::tell_split;

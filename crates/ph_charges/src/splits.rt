@@ -1,126 +1,359 @@
-//! The split of what is captured of a charge.
-ghost use Rattle.std.specs.Prelude.{◌≡◌, IfOk, OnOk};
-ghost use Rattle.ph_charges.specs.Splits.{after_two_days, available_by, available_from, charge_txn, is_at_once, plain_split, split_of, with_split};
+//! The split of what is captured of a charge: to the platform, to a connected account, or to a destination.
+ghost use Rattle.std.specs.Prelude.{◌≡◌, ◌+◌, ◌<◌, ◌^◌, ℤ, [], ◌∷◌, IfOk, OnOk};
+ghost use Rattle.ph_charges.specs.Splits.{charge_row, destination_split, direct_split, fee_at, fee_in, fee_rows, fee_taken, payment_rows, plain_split, split_capture, split_fee, split_payment, split_rows, split_transfer, split_txn, transfer_in, transfer_rows, with_split};
 
-use ph_base::{Method, NoMemory};
-use ph_items::{Charge, Item, PaymentMethod, Txn, TxnSource, TxnType};
+use crate::moments::available_from;
+use ph_base::NoMemory;
+use ph_items::{
+    Capture, Charge, ChargeSort, ChargeStatus, Fee, Item, Metadata, PLATFORM, Transfer, Txn,
+    TxnSource, TxnType, copy_text,
+};
 use ph_money::{Amount, SignedAmount, fee};
-use ph_rows::{Batch, View, version_with};
+use ph_rows::Batch;
 use std::alloc::Global;
 
-// How long what is captured is pending, in seconds.
-const TWO_DAYS: u64 = 172800;
-
-// Whether what a method pays is available at once.
-fn is_at_once(method: Method) -> bool
-    ensures { result ≡ is_at_once method }
+// What the platform takes for itself of an amount that is captured of a charge.
+fn fee_taken(charge: &Charge, amount: Amount) -> Amount
+    ensures { result ≡ fee_taken charge.now amount }
 {
-    match method {
-        Method::Bypass => true,
-        Method::Visa
-        | Method::Declined
-        | Method::NoFunds
-        | Method::Challenge
-        | Method::Authenticated
-        | Method::Dispute
-        | Method::Slow(_)
-        | Method::Lost => false,
+    match charge.application_fee_amount {
+        Some(named) => Amount::new(named.units().min(amount.units())),
+        None => Amount::new(0),
     }
 }
 
-// The moment two days after another.
-fn after_two_days(now: u64) -> u64
-    ensures { result ≡ after_two_days now }
-{
-    now.saturating_add(TWO_DAYS)
-}
-
-// The moment from which what is captured now is available: at once, or after two days.
-fn available_by(at_once: bool, now: u64) -> u64
-    ensures { result ≡ available_by at_once now }
-{
-    if at_once { now } else { after_two_days(now) }
-}
-
-/// The moment from which what is captured now by a payment method is available, in seconds since 1970.
-pub fn available_from(method: &Option<PaymentMethod>, now: u64) -> u64
-    ensures { result ≡ available_from method.now now }
-{
-    match method {
-        Some(method) => available_by(is_at_once(method.method), now),
-        None => after_two_days(now),
-    }
-}
-
-// The transaction of an amount that is captured now of a charge.
-fn charge_txn(object: u64, charge: &Charge, amount: Amount, now: u64) -> Txn
-    ensures { result ≡ charge_txn object charge.now amount now }
+// A transaction of what is captured now of a charge.
+fn split_txn(
+    charge: &Charge,
+    sort: TxnType,
+    amount: SignedAmount,
+    fee: u64,
+    source: TxnSource,
+    now: u64,
+) -> Txn
+    requires { fee < 2 ^ 27 }
+    ensures { result ≡ split_txn charge.now sort amount fee source now }
 {
     Txn {
-        sort: TxnType::Charge,
-        amount: SignedAmount::given(amount),
-        fee: SignedAmount::new(fee(charge.currency, amount)),
+        sort,
+        amount,
+        fee: SignedAmount::new(fee),
         currency: charge.currency,
         available_on: available_from(&charge.payment_method, now),
-        source: TxnSource::Charge(object),
+        source,
     }
 }
 
-/// A row of a split: the first version of an object, and the account that the object belongs to.
-#[derive(Drop, Debug)]
-pub struct SplitRow {
-    pub account: u64,
-    pub item: Item,
-}
-
-/// The split of an amount that is captured now of a plain charge of the account: its transaction, of which the fee is
-/// that of the captured amount, and which counts as available after two days, or at once where the charge's payment
-/// method says so.
-pub fn plain_split(
-    alloc: Global,
+// Adds the transaction of an amount that is captured now of a charge, of which so much is kept.
+fn add_charge_row(
     account: u64,
     object: u64,
     charge: &Charge,
     amount: Amount,
-    now: u64,
-) -> Result<Vec<SplitRow>, NoMemory>
-    ensures { IfOk result (λ split. split.items ≡ plain_split account object charge.now amount now) }
+    kept: u64,
+    batch: &mut Batch,
+) -> Result<(), NoMemory>
+    requires { kept < 2 ^ 27 }
+    ensures { OnOk result (batch.new ≡ with_split (charge_row account object charge.now amount kept batch.old.at ∷ []) batch.old) }
 {
-    let mut split = Vec::new(alloc);
-    split.push(SplitRow {
-        account,
-        item: Item::Txn(charge_txn(object, charge, amount, now)),
-    })?;
-    Ok(split)
-}
-
-/// Adds the rows of a split, each the first version of a new object.
-pub fn add_split(split: Vec<SplitRow>, batch: &mut Batch) -> Result<(), NoMemory>
-    ensures { OnOk result (batch.new ≡ with_split split.items batch.old) }
-{
-    for row in split {
-        batch.add(row.account, row.item)?;
-    }
+    let given = SignedAmount::given(amount);
+    let source = TxnSource::Charge(object);
+    let txn = split_txn(charge, TxnType::Charge, given, kept, source, batch.at());
+    batch.add(account, Item::Txn(txn))?;
     Ok(())
 }
 
-/// Adds the split of a captured amount of a charge, whose last version is in the batch or in the view. Where there is
-/// no such charge nothing is added.
-pub fn split<V: View>(
+// The transfer of a place, of an amount of a charge to a destination.
+fn split_transfer(
     alloc: Global,
-    view: &V,
-    charge: u64,
-    captured: Amount,
+    place: u64,
+    destination: u64,
+    object: u64,
+    charge: &Charge,
+    amount: Amount,
+    now: u64,
+) -> Result<Transfer, NoMemory>
+    requires { place < 2 ^ 63 }
+    ensures { IfOk result (λ transfer. transfer ≡ split_transfer place destination object charge.now amount now) }
+{
+    Ok(Transfer {
+        amount,
+        currency: charge.currency,
+        destination,
+        payment: place + 2,
+        source: Some(object),
+        transaction: place + 1,
+        available_on: available_from(&charge.payment_method, now),
+        transfer_group: copy_text(alloc, charge.transfer_group.as_ref())?,
+    })
+}
+
+// Adds a transfer, whose place is this, and the transaction that takes its amount from the platform.
+fn add_transfer_rows(
+    alloc: Global,
+    place: u64,
+    destination: u64,
+    object: u64,
+    charge: &Charge,
+    amount: Amount,
     batch: &mut Batch,
 ) -> Result<(), NoMemory>
-    ensures { OnOk result (batch.new ≡ split_of (V.state view.now).rows charge captured batch.old) }
+    requires { place < 2 ^ 63 }
+    ensures { OnOk result (batch.new ≡ with_split (transfer_rows place destination object charge.now amount batch.old.at) batch.old) }
 {
-    let Some(row) = version_with(view, batch, charge) else {
+    let now = batch.at();
+    let transfer = split_transfer(alloc, place, destination, object, charge, amount, now)?;
+    batch.add(PLATFORM, Item::Transfer(transfer))?;
+    let taken = SignedAmount::taken(amount);
+    let source = TxnSource::Transfer(place);
+    let txn = split_txn(charge, TxnType::Transfer, taken, 0, source, now);
+    batch.add(PLATFORM, Item::Txn(txn))?;
+    Ok(())
+}
+
+// The payment of a place that a transfer gives.
+fn split_payment(
+    alloc: Global,
+    place: u64,
+    transfer: u64,
+    charge: &Charge,
+    amount: Amount,
+    now: u64,
+) -> Charge
+    requires { place < 2 ^ 63 }
+    ensures { result ≡ split_payment place transfer charge.now amount now }
+{
+    Charge {
+        sort: ChargeSort::Payment(transfer),
+        amount,
+        amount_captured: amount,
+        amount_refunded: Amount::new(0),
+        currency: charge.currency,
+        status: ChargeStatus::Succeeded,
+        payment_method: None,
+        application_fee_amount: None,
+        destination: None,
+        capture: Some(Capture {
+            transaction: place + 1,
+            available_on: available_from(&charge.payment_method, now),
+            transfer: None,
+            fee: None,
+        }),
+        dispute: None,
+        description: None,
+        metadata: Metadata::new(alloc),
+        transfer_group: None,
+    }
+}
+
+// Adds a payment, whose place is this, and the transaction that gives its amount to the destination, less what the
+// platform takes of it.
+fn add_payment_rows(
+    alloc: Global,
+    place: u64,
+    destination: u64,
+    transfer: u64,
+    charge: &Charge,
+    amount: Amount,
+    taken: Amount,
+    batch: &mut Batch,
+) -> Result<(), NoMemory>
+    requires { place < 2 ^ 63 }
+    ensures { OnOk result (batch.new ≡ with_split (payment_rows place destination transfer charge.now amount taken batch.old.at) batch.old) }
+{
+    let now = batch.at();
+    let payment = split_payment(alloc, place, transfer, charge, amount, now);
+    batch.add(destination, Item::Charge(payment))?;
+    let given = SignedAmount::given(amount);
+    let source = TxnSource::Payment(place);
+    let txn = split_txn(charge, TxnType::Payment, given, taken.units(), source, now);
+    batch.add(destination, Item::Txn(txn))?;
+    Ok(())
+}
+
+// The application fee of a place, of a charge, that is taken from an account.
+fn split_fee(place: u64, account: u64, object: u64, charge: &Charge, taken: Amount, now: u64) -> Fee
+    requires { place < 2 ^ 63 }
+    ensures { result ≡ split_fee place account object charge.now taken now }
+{
+    Fee {
+        account,
+        charge: object,
+        amount: taken,
+        currency: charge.currency,
+        transaction: place + 1,
+        available_on: available_from(&charge.payment_method, now),
+    }
+}
+
+// Adds an application fee, whose place is this, and the transaction that gives it to the platform; nothing where nothing
+// is taken.
+fn add_fee_rows(
+    place: u64,
+    account: u64,
+    object: u64,
+    charge: &Charge,
+    taken: Amount,
+    batch: &mut Batch,
+) -> Result<(), NoMemory>
+    requires { place < 2 ^ 63 }
+    ensures { OnOk result (batch.new ≡ with_split (fee_rows place account object charge.now taken batch.old.at) batch.old) }
+{
+    if taken.units() == 0 {
         return Ok(());
-    };
-    let Some(version) = row.item.charge() else {
-        return Ok(());
-    };
-    let rows = plain_split(alloc, row.account, charge, version, captured, batch.at())?;
-    add_split(rows, batch)
+    }
+    let now = batch.at();
+    let fee = split_fee(place, account, object, charge, taken, now);
+    batch.add(PLATFORM, Item::Fee(fee))?;
+    let given = SignedAmount::given(taken);
+    let source = TxnSource::Fee(place);
+    let txn = split_txn(charge, TxnType::ApplicationFee, given, 0, source, now);
+    batch.add(PLATFORM, Item::Txn(txn))?;
+    Ok(())
+}
+
+// Adds the split of a charge that the platform makes for itself.
+fn add_plain(
+    account: u64,
+    object: u64,
+    charge: &Charge,
+    amount: Amount,
+    batch: &mut Batch,
+) -> Result<(), NoMemory>
+    ensures { OnOk result (batch.new ≡ with_split (plain_split account object charge.now amount batch.old.at) batch.old) }
+{
+    let kept = fee(charge.currency, amount);
+    add_charge_row(account, object, charge, amount, kept, batch)
+}
+
+// Adds the split of a charge of a connected account.
+fn add_direct(
+    place: u64,
+    account: u64,
+    object: u64,
+    charge: &Charge,
+    amount: Amount,
+    batch: &mut Batch,
+) -> Result<(), NoMemory>
+    requires { place < 2 ^ 62 }
+    ensures { OnOk result (batch.new ≡ with_split (direct_split place account object charge.now amount batch.old.at) batch.old) }
+{
+    let taken = fee_taken(charge, amount);
+    let kept = fee(charge.currency, amount) + taken.units();
+    add_charge_row(account, object, charge, amount, kept, batch)?;
+    add_fee_rows(place + 1, account, object, charge, taken, batch)
+}
+
+// Adds the split of a charge with a destination.
+fn add_destination(
+    alloc: Global,
+    place: u64,
+    destination: u64,
+    account: u64,
+    object: u64,
+    charge: &Charge,
+    amount: Amount,
+    batch: &mut Batch,
+) -> Result<(), NoMemory>
+    requires { place < 2 ^ 62 }
+    ensures { OnOk result (batch.new ≡ with_split (destination_split place destination account object charge.now amount batch.old.at) batch.old) }
+{
+    add_plain(account, object, charge, amount, batch)?;
+    add_transfer_rows(alloc, place + 1, destination, object, charge, amount, batch)?;
+    let taken = fee_taken(charge, amount);
+    add_payment_rows(
+        alloc,
+        place + 3,
+        destination,
+        place + 1,
+        charge,
+        amount,
+        taken,
+        batch,
+    )?;
+    add_fee_rows(place + 5, destination, object, charge, taken, batch)
+}
+
+/// Adds the split of an amount that is captured now of the charge of a number and an account: rows whose first one has
+/// this place. What is captured of a charge without a destination goes to its account, and less what the platform takes
+/// of it where that is a connected one; what is captured of a charge with a destination goes there by a transfer.
+pub fn add_split(
+    alloc: Global,
+    place: u64,
+    account: u64,
+    object: u64,
+    charge: &Charge,
+    amount: Amount,
+    batch: &mut Batch,
+) -> Result<(), NoMemory>
+    requires { place < 2 ^ 62 }
+    ensures { OnOk result (batch.new ≡ with_split (split_rows place account object charge.now amount batch.old.at) batch.old) }
+{
+    match charge.destination {
+        Some(to) => add_destination(alloc, place, to, account, object, charge, amount, batch),
+        None => {
+            if account == PLATFORM {
+                add_plain(account, object, charge, amount, batch)
+            } else {
+                add_direct(place, account, object, charge, amount, batch)
+            }
+        }
+    }
+}
+
+// The number of the application fee that stands at a place; none where nothing is taken.
+fn fee_at(place: u64, taken: Amount) -> Option<u64>
+    ensures { result ≡ fee_at place taken }
+{
+    if taken.units() == 0 {
+        None
+    } else {
+        Some(place)
+    }
+}
+
+// The number of the application fee in a split whose first row has this place.
+fn fee_in(destination: Option<u64>, place: u64, account: u64, taken: Amount) -> Option<u64>
+    requires { place < 2 ^ 62 }
+    ensures { result ≡ fee_in destination place account taken }
+{
+    match destination {
+        Some(_) => fee_at(place + 5, taken),
+        None => {
+            if account == PLATFORM {
+                None
+            } else {
+                fee_at(place + 1, taken)
+            }
+        }
+    }
+}
+
+// The number of the transfer in a split whose first row has this place.
+fn transfer_in(destination: Option<u64>, place: u64) -> Option<u64>
+    requires { place < 2 ^ 62 }
+    ensures { result ≡ transfer_in destination place }
+{
+    match destination {
+        Some(_) => Some(place + 1),
+        None => None,
+    }
+}
+
+/// What a charge of an account keeps of the capture of an amount now, where the first row of its split has this place.
+pub fn split_capture(place: u64, account: u64, charge: &Charge, amount: Amount, now: u64) -> Capture
+    requires { place < 2 ^ 62 }
+    ensures { result ≡ split_capture place account charge.now amount now }
+{
+    Capture {
+        transaction: place,
+        available_on: available_from(&charge.payment_method, now),
+        transfer: transfer_in(charge.destination, place),
+        fee: fee_in(
+            charge.destination,
+            place,
+            account,
+            fee_taken(charge, amount),
+        ),
+    }
 }

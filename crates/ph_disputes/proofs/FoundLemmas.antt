@@ -28,6 +28,8 @@ dispute_is (item.Attempt attempt) dispute e = absurd (cc)
 dispute_is (item.Charge charge) dispute e = absurd (cc)
 dispute_is (item.Refund refund) dispute e = absurd (cc)
 dispute_is (item.Dispute version) dispute e = (let same : version ≡ dispute = cc in ap (λ (d : Dispute). item.Dispute d) same)
+dispute_is (item.Transfer transfer) dispute e = absurd (cc)
+dispute_is (item.Fee fee) dispute e = absurd (cc)
 dispute_is (item.Txn txn) dispute e = absurd (cc)
 dispute_is (item.Event event) dispute e = absurd (cc)
 

@@ -107,6 +107,8 @@ status_apart object number old (item.Attempt x) apart = refl
 status_apart object number old (item.Charge x) apart = refl
 status_apart object number old (item.Refund x) apart = refl
 status_apart object number old (item.Dispute x) apart = refl
+status_apart object number old (item.Transfer transfer) apart = refl
+status_apart object number old (item.Fee fee) apart = refl
 status_apart object number old (item.Txn x) apart = refl
 status_apart object number old (item.Event x) apart = refl
 
@@ -144,6 +146,8 @@ version_apart object number old (item.Attempt x) apart = rw apart refl
 version_apart object number old (item.Charge x) apart = refl
 version_apart object number old (item.Refund x) apart = refl
 version_apart object number old (item.Dispute x) apart = refl
+version_apart object number old (item.Transfer transfer) apart = refl
+version_apart object number old (item.Fee fee) apart = refl
 version_apart object number old (item.Txn x) apart = refl
 version_apart object number old (item.Event x) apart = refl
 
@@ -274,6 +278,8 @@ status_changes number object old (item.Attempt x) = inl refl
 status_changes number object old (item.Charge x) = inl refl
 status_changes number object old (item.Refund x) = inl refl
 status_changes number object old (item.Dispute x) = inl refl
+status_changes number object old (item.Transfer transfer) = inl refl
+status_changes number object old (item.Fee fee) = inl refl
 status_changes number object old (item.Txn x) = inl refl
 status_changes number object old (item.Event x) = inl refl
 
@@ -289,6 +295,8 @@ version_changes number object old (item.Attempt x) = at (object == number) refl
 version_changes number object old (item.Charge x) = inl refl
 version_changes number object old (item.Refund x) = inl refl
 version_changes number object old (item.Dispute x) = inl refl
+version_changes number object old (item.Transfer transfer) = inl refl
+version_changes number object old (item.Fee fee) = inl refl
 version_changes number object old (item.Txn x) = inl refl
 version_changes number object old (item.Event x) = inl refl
 
@@ -328,6 +336,8 @@ intent_of_kind (item.Attempt x) h = absurd (cc)
 intent_of_kind (item.Charge x) h = absurd (charge_kinds x.sort kind.Intent (λ is. absurd (cc)) (λ is. absurd (cc)) h)
 intent_of_kind (item.Refund x) h = absurd (cc)
 intent_of_kind (item.Dispute x) h = absurd (cc)
+intent_of_kind (item.Transfer transfer) h = absurd (cc)
+intent_of_kind (item.Fee fee) h = absurd (cc)
 intent_of_kind (item.Txn x) h = absurd (cc)
 intent_of_kind (item.Event x) h = absurd (cc)
 
@@ -338,6 +348,8 @@ attempt_of_kind (item.Attempt x) h = (x, refl)
 attempt_of_kind (item.Charge x) h = absurd (charge_kinds x.sort kind.Attempt (λ is. absurd (cc)) (λ is. absurd (cc)) h)
 attempt_of_kind (item.Refund x) h = absurd (cc)
 attempt_of_kind (item.Dispute x) h = absurd (cc)
+attempt_of_kind (item.Transfer transfer) h = absurd (cc)
+attempt_of_kind (item.Fee fee) h = absurd (cc)
 attempt_of_kind (item.Txn x) h = absurd (cc)
 attempt_of_kind (item.Event x) h = absurd (cc)
 

@@ -48,7 +48,10 @@ moved_sum = record {
 -- a transaction of a type adds to its source
 captured_to : (type : TxnType) (number : ℕ) (amount : ℤ) (part : Addition ℤ) → captured_by type number amount ≡ Some part → part.object ≡ number
 captured_to sort.Charge number amount part e = let same : record { object = number; amount = amount } ≡ part = cc in sym (ap (λ (p : Addition ℤ). p.object) same)
+captured_to sort.Payment number amount part e = let same : record { object = number; amount = amount } ≡ part = cc in sym (ap (λ (p : Addition ℤ). p.object) same)
 captured_to sort.Refund number amount part e = absurd (cc)
+captured_to sort.Transfer number amount part e = absurd (cc)
+captured_to sort.ApplicationFee number amount part e = absurd (cc)
 captured_to sort.Adjustment number amount part e = absurd (cc)
 
 pub captured_named : AddsToNamed captured
@@ -58,6 +61,8 @@ captured_named rows (item.Attempt attempt) part e there = absurd (cc)
 captured_named rows (item.Charge charge) part e there = absurd (cc)
 captured_named rows (item.Refund refund) part e there = absurd (cc)
 captured_named rows (item.Dispute dispute) part e there = absurd (cc)
+captured_named rows (item.Transfer transfer) part e there = absurd (cc)
+captured_named rows (item.Fee fee) part e there = absurd (cc)
 captured_named rows (item.Txn txn) part e there =
     let within = origin_within rows (record { kind = source_kind txn.source; number = source_number txn.source }) there.0 in
     let to = captured_to txn.sort (source_number txn.source) txn.amount part e in
@@ -75,15 +80,20 @@ refunded_named rows (item.Refund refund) part e there =
     let to : refund.charge ≡ part.object = ap (λ (p : Addition ℕ). p.object) same in
     omega (arith, within, to)
 refunded_named rows (item.Dispute dispute) part e there = absurd (cc)
+refunded_named rows (item.Transfer transfer) part e there = absurd (cc)
+refunded_named rows (item.Fee fee) part e there = absurd (cc)
 refunded_named rows (item.Txn txn) part e there = absurd (cc)
 refunded_named rows (item.Event event) part e there = absurd (cc)
 
 -- a transaction from a source adds to that
 moved_to : (from : TxnSource) (move : Move) (part : Addition (List Move)) → moved_by from move ≡ Some part → part.object ≡ source_number from
 moved_to (source.Charge number) move part e = absurd (cc)
+moved_to (source.Payment number) move part e = absurd (cc)
 moved_to (source.Refund number) move part e = absurd (cc)
 moved_to (source.Dispute number) move part e =
     let same : record { object = number; amount = move ∷ [] } ≡ part = cc in sym (ap (λ (p : Addition (List Move)). p.object) same)
+moved_to (source.Transfer number) move part e = absurd (cc)
+moved_to (source.Fee number) move part e = absurd (cc)
 
 pub moved_named : AddsToNamed moved
 moved_named rows (item.Account account) part e there = absurd (cc)
@@ -92,6 +102,8 @@ moved_named rows (item.Attempt attempt) part e there = absurd (cc)
 moved_named rows (item.Charge charge) part e there = absurd (cc)
 moved_named rows (item.Refund refund) part e there = absurd (cc)
 moved_named rows (item.Dispute dispute) part e there = absurd (cc)
+moved_named rows (item.Transfer transfer) part e there = absurd (cc)
+moved_named rows (item.Fee fee) part e there = absurd (cc)
 moved_named rows (item.Txn txn) part e there =
     let within = origin_within rows (record { kind = source_kind txn.source; number = source_number txn.source }) there.0 in
     let to = moved_to txn.source (record { amount = txn.amount; fee = txn.fee }) part e in

@@ -1,8 +1,11 @@
 -- Rows stay sound with the batch of an entry: its object rows, then the rows of its events.
-use Rattle.std.proofs.Common.{◌≡◌, ℕ, ◌+◌, ◌^◌, ◌<◌, inl, inr, Bool, true, false, cond, eqb, List, [], ◌∷◌, ◌++◌, Option, None, Some, length, refl, sym, ap, ◌∙◌, subst, arith}
+use Rattle.std.specs.Prelude.{slice_get}
+use Rattle.std.proofs.Common.{◌≡◌, ℕ, zero, suc, ◌+◌, ◌^◌, ◌<◌, inl, inr, Bool, true, false, cond, eqb, List, [], ◌∷◌, ◌++◌, Option, None, Some, length, refl, sym, ap, ◌∙◌, subst, arith}
 use Rattle.std.specs.List.{fold, list_all, list_any}
 use Rattle.std.specs.Str.{is_utf8}
+use Rattle.std.proofs.lemmas.Bool.{eqb-false}
 use Rattle.std.proofs.lemmas.List.{length-append, append_assoc}
+use Rattle.ph_items.specs.declared.event_kinds.EventKind.{EventKind}
 use Rattle.ph_items.specs.Kinds.{kind_of}
 use Rattle.ph_items.specs.Weights.{with_text}
 use Rattle.ph_items.specs.Words.{subject_of}
@@ -161,3 +164,34 @@ told_with state rows more (told ∷ announced) order tells = (at (latest_of told
         let latest : latest_of told.object (rows ++ more) ≡ Some still.0 =
         latest_from told.object None rows more ∙ ap (λ o. fold (later_version told.object) o more) e ∙ still.1 in
         subst (λ (o : Option Row). IsToldBy o told.sort) (sym latest) (last subject still.0 e latest h)
+
+-- an object of which there is a version among rows has a present one
+has_latest : (object : ℕ) (found : Option Row) (rows : List Row) (i : ℕ) (row : Row) → slice_get rows i ≡ Some row
+    → row.object ≡ object → (last : Row) × (fold (later_version object) found rows ≡ Some last)
+has_latest object found [] i row there mine = absurd (cc)
+has_latest object found (x ∷ rows) zero row there mine = at (eqb x.object object) refl
+  where
+    same : x ≡ row
+    same = cc
+
+    at : (b : Bool) → eqb x.object object ≡ b → (last : Row) × (fold (later_version object) (cond b (Some x) found) rows ≡ Some last)
+    at true e = still_found object x rows
+    at false e = absurd (eqb-false x.object object e (ap (λ (r : Row). r.object) same ∙ mine))
+has_latest object found (x ∷ rows) (suc i) row there mine = has_latest object (later_version object found x) rows i row there mine
+
+-- a row among those that are added is told by an event of its kind
+pub row_told : (state : ViewState) (rows : List Row) (i : ℕ) (row : Row) (sort : EventKind)
+    → IsInOrder (record state { rows = state.rows ++ rows }) → slice_get rows i ≡ Some row → kind_of row.item ≡ subject_of sort
+    → IsToldBy (latest_of row.object rows) sort
+row_told state rows i row sort order there subject = at (latest_of row.object rows) refl
+  where
+    stands : row_at row.place (state.rows ++ rows) ≡ Some row
+    stands = stands_behind state rows i row order there
+
+    at : (found : Option Row) → latest_of row.object rows ≡ found → IsToldBy found sort
+    at None none =
+        let last = has_latest row.object None rows i row there refl in
+        let clash : None ≡ Some last.0 = sym none ∙ last.1 in absurd (cc)
+    at (Some last) e =
+        let here = stand_behind state rows order row.object last e in
+        versions_alike (record state { rows = state.rows ++ rows }) last.place row.place last row order here.0 stands here.1 ∙ subject

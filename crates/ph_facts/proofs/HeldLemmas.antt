@@ -71,6 +71,8 @@ Leaves rows object version (item.Attempt attempt) = Unit {0}
 Leaves rows object version (item.Charge charge) = IsApart rows object version
 Leaves rows object version (item.Refund refund) = Unit {0}
 Leaves rows object version (item.Dispute dispute) = Unit {0}
+Leaves rows object version (item.Transfer transfer) = Unit {0}
+Leaves rows object version (item.Fee fee) = Unit {0}
 Leaves rows object version (item.Txn txn) = Unit {0}
 Leaves rows object version (item.Event event) = Unit {0}
 
@@ -96,6 +98,8 @@ charge_is_apart rows object version (item.Attempt attempt) k h = absurd (cc)
 charge_is_apart rows object version (item.Charge charge) k h = h
 charge_is_apart rows object version (item.Refund refund) k h = absurd (cc)
 charge_is_apart rows object version (item.Dispute dispute) k h = absurd (cc)
+charge_is_apart rows object version (item.Transfer transfer) k h = absurd (cc)
+charge_is_apart rows object version (item.Fee fee) k h = absurd (cc)
 charge_is_apart rows object version (item.Txn txn) k h = absurd (cc)
 charge_is_apart rows object version (item.Event event) k h = absurd (cc)
 
@@ -107,6 +111,8 @@ kind_of_charge (item.Attempt attempt) charge e = absurd (cc)
 kind_of_charge (item.Charge version) charge e = (let same : version ≡ charge = cc in ap (λ (c : Charge). charge_kind c.sort) same)
 kind_of_charge (item.Refund refund) charge e = absurd (cc)
 kind_of_charge (item.Dispute dispute) charge e = absurd (cc)
+kind_of_charge (item.Transfer transfer) charge e = absurd (cc)
+kind_of_charge (item.Fee fee) charge e = absurd (cc)
 kind_of_charge (item.Txn txn) charge e = absurd (cc)
 kind_of_charge (item.Event event) charge e = absurd (cc)
 
@@ -165,6 +171,8 @@ IsBeside rows object (item.Attempt attempt) = Unit {0}
 IsBeside rows object (item.Charge charge) = IsLoose rows object
 IsBeside rows object (item.Refund refund) = Unit {0}
 IsBeside rows object (item.Dispute dispute) = Unit {0}
+IsBeside rows object (item.Transfer transfer) = Unit {0}
+IsBeside rows object (item.Fee fee) = Unit {0}
 IsBeside rows object (item.Txn txn) = Unit {0}
 IsBeside rows object (item.Event event) = Unit {0}
 
@@ -182,6 +190,8 @@ beside_leaves rows object version (item.Attempt attempt) h = tt
 beside_leaves rows object version (item.Charge charge) h = h object
 beside_leaves rows object version (item.Refund refund) h = tt
 beside_leaves rows object version (item.Dispute dispute) h = tt
+beside_leaves rows object version (item.Transfer transfer) h = tt
+beside_leaves rows object version (item.Fee fee) h = tt
 beside_leaves rows object version (item.Txn txn) h = tt
 beside_leaves rows object version (item.Event event) h = tt
 

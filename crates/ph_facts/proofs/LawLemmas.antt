@@ -1,7 +1,8 @@
 -- The laws, as rows are added: what another kind of row leaves.
 use Rattle.std.specs.Prelude.{◌||◌}
-use Rattle.std.proofs.Common.{◌≡◌, ℕ, Bool, false, List, [], ◌∷◌, ◌++◌, refl}
+use Rattle.std.proofs.Common.{◌≡◌, ℕ, Bool, false, List, [], ◌∷◌, ◌++◌, refl, subst}
 use Rattle.std.specs.List.{list_any}
+use Rattle.std.proofs.lemmas.List.{append_assoc}
 use Rattle.ph_rows.specs.declared.rows.Row.{Row}
 use Rattle.ph_rows.specs.Views.{ViewState}
 use Rattle.ph_rows.proofs.RowLemmas.{both_fail, first_fails, second_fails}
@@ -64,6 +65,39 @@ pub laws_beside : (state : ViewState) (more : List Row) → IsInOrder state → 
 laws_beside state more before order none beside laws =
     laws_held state.rows more none laws (held_beside state more before order beside laws.held)
 
+-- ---- the laws on amounts, without what is held
+
+pub record KeepAmounts (rows : List Row) : Type 0 where
+  pub captured : SaySums captured rows
+  pub refunded : SaySums refunded rows
+  pub moved : SaySums moved rows
+
+pub amounts_kept : (rows : List Row) → KeepLaws rows → KeepAmounts rows
+amounts_kept rows laws = record { captured = laws.captured; refunded = laws.refunded; moved = laws.moved }
+
+pub laws_by : (rows : List Row) → KeepAmounts rows → AreHeld rows → KeepLaws rows
+laws_by rows amounts held =
+    record { captured = amounts.captured; refunded = amounts.refunded; moved = amounts.moved; held = held }
+
+-- with some rows more they are kept still
+abbrev pub Kept : List Row → List Row → Type 0
+Kept rows more = KeepAmounts rows → KeepAmounts (rows ++ more)
+
+-- so they are with some and others
+pub kept_both : (rows first second : List Row) → Kept rows first → Kept (rows ++ first) second → Kept rows (first ++ second)
+kept_both rows first second one two amounts =
+    subst (λ (all : List Row). KeepAmounts all) (append_assoc rows first second) (two (one amounts))
+
+-- and with rows that have to do with no amounts
+pub kept_none : (rows more : List Row) → list_any is_of_amounts more ≡ false → Kept rows more
+kept_none rows more none amounts =
+    let of_charges = first_of_none is_of_charges (speaks moved) more none in
+    record {
+      captured = sums_stay captured rows more captured_sum (first_of_none (speaks captured) (speaks refunded) more of_charges) amounts.captured;
+      refunded = sums_stay refunded rows more refunded_sum (second_of_none (speaks captured) (speaks refunded) more of_charges) amounts.refunded;
+      moved = sums_stay moved rows more moved_sum (second_of_none is_of_charges (speaks moved) more none) amounts.moved;
+    }
+
 -- ---- the amounts of one charge
 
 -- a row has to do with the amounts of a charge
@@ -94,6 +128,19 @@ pub charge_stays : (charge : ℕ) (rows more : List Row) → list_any (touches_c
 charge_stays charge rows more apart says = record {
   captured = sum_stays captured charge rows more captured_sum (first_of_none (touches captured charge) (touches refunded charge) more apart) says.captured;
   refunded = sum_stays refunded charge rows more refunded_sum (second_of_none (touches captured charge) (touches refunded charge) more apart) says.refunded;
+}
+
+-- the laws on amounts are kept with rows that have to do with one charge alone, which says its amounts, and with nothing of
+-- disputes
+pub kept_one : (rows more : List Row) (charge : ℕ) → SaysSums charge (rows ++ more)
+    → ((other : ℕ) → (other ≡ charge → ⊥) → list_any (touches_charge other) more ≡ false) → list_any (speaks moved) more ≡ false
+    → Kept rows more
+kept_one rows more charge says apart quiet amounts = record {
+  captured = sums_of_one captured rows more charge captured_sum amounts.captured says.captured
+      (λ other differs. first_of_none (touches captured other) (touches refunded other) more (apart other differs));
+  refunded = sums_of_one refunded rows more charge refunded_sum amounts.refunded says.refunded
+      (λ other differs. second_of_none (touches captured other) (touches refunded other) more (apart other differs));
+  moved = sums_stay moved rows more moved_sum quiet amounts.moved;
 }
 
 -- the laws are kept with rows that have to do with the amounts of one charge alone, which it says, and with nothing of disputes

@@ -30,6 +30,8 @@ charge_is (item.Attempt attempt) charge e = absurd (cc)
 charge_is (item.Charge version) charge e = (let same : version ≡ charge = cc in ap (λ (c : Charge). item.Charge c) same)
 charge_is (item.Refund refund) charge e = absurd (cc)
 charge_is (item.Dispute dispute) charge e = absurd (cc)
+charge_is (item.Transfer transfer) charge e = absurd (cc)
+charge_is (item.Fee fee) charge e = absurd (cc)
 charge_is (item.Txn txn) charge e = absurd (cc)
 charge_is (item.Event event) charge e = absurd (cc)
 

@@ -53,6 +53,14 @@ underway_told state batch object account content sort underway subject =
           (sym (latest_of-last batch.rows new)) subject);
     }
 
+-- and with an event of an object of which it has a row
+pub underway_announced : (state : ViewState) (batch : BatchState) (sort : EventKind) (object : ℕ) → IsUnderway state batch
+    → IsToldBy (latest_of object batch.rows) sort → IsUnderway state (with_announced batch sort object)
+underway_announced state batch sort object underway tells = record {
+  continues = continues_told state batch sort object underway.continues;
+  told = told_push batch.rows batch.announced (record { sort = sort; object = object }) underway.told tells;
+}
+
 -- and with the first version of a new object
 pub underway_first : (state : ViewState) (batch : BatchState) (account : ℕ) (content : Item) → IsInOrder state
     → IsUnderway state batch → length state.rows + length batch.rows + 1 < 10 ^ 16 → MayStand (state.rows ++ batch.rows) content

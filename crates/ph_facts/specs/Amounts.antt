@@ -16,13 +16,16 @@ use Rattle.ph_items.specs.Transactions.{source_number}
 use Rattle.ph_rows.specs.declared.rows.Row.{Row}
 use Rattle.ph_facts.specs.Tallies.{Addition, Tally, sum_for}
 
--- what a transaction of a type adds to what was captured of its source: its amount, where the type is charge
+-- what a transaction of a type adds to what was captured of its source: its amount, where the type is charge or payment
 abbrev pub captured_by : TxnType → ℕ → ℤ → Option (Addition ℤ)
 captured_by sort.Charge charge amount = Some (record { object = charge; amount = amount })
+captured_by sort.Payment charge amount = Some (record { object = charge; amount = amount })
 captured_by sort.Refund charge amount = None
+captured_by sort.Transfer charge amount = None
+captured_by sort.ApplicationFee charge amount = None
 captured_by sort.Adjustment charge amount = None
 
--- what was captured of a charge: the sum of the amounts of the transactions of type charge whose source it is
+-- what was captured of a charge: the sum of the amounts of the transactions of type charge, or payment, whose source it is
 abbrev pub captured : Tally ℤ
 captured = record {
   nothing = pos 0;
@@ -69,8 +72,11 @@ moves_in status.Lost amount = taken_move amount ∷ []
 -- what a transaction from a source adds to what a dispute has moved: its own move, where the source is one
 abbrev pub moved_by : TxnSource → Move → Option (Addition (List Move))
 moved_by (source.Charge number) move = None
+moved_by (source.Payment number) move = None
 moved_by (source.Refund number) move = None
 moved_by (source.Dispute number) move = Some (record { object = number; amount = move ∷ [] })
+moved_by (source.Transfer number) move = None
+moved_by (source.Fee number) move = None
 
 -- what a dispute has moved: the moves of its transactions, in their order
 abbrev pub moved : Tally (List Move)

@@ -50,6 +50,8 @@ AmountsFit (item.Attempt attempt) = Unit {0}
 AmountsFit (item.Charge charge) = IsWithin charge
 AmountsFit (item.Refund refund) = Unit {0}
 AmountsFit (item.Dispute dispute) = Unit {0}
+AmountsFit (item.Transfer transfer) = Unit {0}
+AmountsFit (item.Fee fee) = Unit {0}
 AmountsFit (item.Txn txn) = Unit {0}
 AmountsFit (item.Event event) = Unit {0}
 

@@ -27,7 +27,8 @@ charge_origin (charge_sort.Card intent) = record { kind = kind.Intent; number = 
 charge_origin (charge_sort.Payment transfer) = record { kind = kind.Transfer; number = transfer }
 
 -- the objects that an item names and that stand before it: the latest charge of a payment intent, the payment intent of
--- an attempt, what a charge is made for, the charge of a refund and of a dispute, the source of a transaction
+-- an attempt, what a charge is made for, the charge of a refund, of a dispute, of a transfer and of an application fee, the
+-- source of a transaction
 abbrev pub origins_of : Item → List Origin
 origins_of (item.Account account) = []
 origins_of (item.Intent intent) = charge_named intent.latest_charge
@@ -35,6 +36,8 @@ origins_of (item.Attempt attempt) = record { kind = kind.Intent; number = attemp
 origins_of (item.Charge charge) = charge_origin charge.sort ∷ []
 origins_of (item.Refund refund) = record { kind = kind.Charge; number = refund.charge } ∷ []
 origins_of (item.Dispute dispute) = record { kind = kind.Charge; number = dispute.charge } ∷ []
+origins_of (item.Transfer transfer) = charge_named transfer.source
+origins_of (item.Fee fee) = record { kind = kind.Charge; number = fee.charge } ∷ []
 origins_of (item.Txn txn) = record { kind = source_kind txn.source; number = source_number txn.source } ∷ []
 origins_of (item.Event event) = []
 
@@ -61,5 +64,7 @@ is_made_once (item.Attempt attempt) = false
 is_made_once (item.Charge charge) = false
 is_made_once (item.Refund refund) = true
 is_made_once (item.Dispute dispute) = false
+is_made_once (item.Transfer transfer) = false
+is_made_once (item.Fee fee) = false
 is_made_once (item.Txn txn) = true
 is_made_once (item.Event event) = true

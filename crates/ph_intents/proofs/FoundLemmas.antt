@@ -60,6 +60,8 @@ keeps_at most operation state account text sound keeps = at (owned_named state.r
     item_is row stands latest owner (item.Charge charge) is = no_object (codes "id")
     item_is row stands latest owner (item.Refund refund) is = no_object (codes "id")
     item_is row stands latest owner (item.Dispute dispute) is = no_object (codes "id")
+    item_is row stands latest owner (item.Transfer transfer) is = no_object (codes "id")
+    item_is row stands latest owner (item.Fee fee) is = no_object (codes "id")
     item_is row stands latest owner (item.Txn txn) is = no_object (codes "id")
     item_is row stands latest owner (item.Event event) is = no_object (codes "id")
 

@@ -87,6 +87,8 @@ charge_row rows number charge e = at (latest_of number rows) refl e
     in_item row l (item.Charge version) is e = record { row = row; latest = l; is = is ∙ (let same : version ≡ charge = cc in ap item.Charge same) }
     in_item row l (item.Refund refund) is e = absurd (cc)
     in_item row l (item.Dispute dispute) is e = absurd (cc)
+    in_item row l (item.Transfer transfer) is e = absurd (cc)
+    in_item row l (item.Fee fee) is e = absurd (cc)
     in_item row l (item.Txn txn) is e = absurd (cc)
     in_item row l (item.Event event) is e = absurd (cc)
 

@@ -3,11 +3,10 @@ use Rattle.std.proofs.Common.{◌≡◌, ℕ, ◌+◌, ◌||◌, ◌∙◌, ap, 
 use Rattle.std.proofs.lemmas.Bool.{cond_both}
 use Rattle.std.specs.Option.{is_some, option_or}
 use Rattle.ph_base.specs.declared.acquirer.Method.TheVariants as method
-use Rattle.ph_facts.specs.Outcomes.{Refuses, Adds}
+use Rattle.ph_facts.specs.Outcomes.{Outcome, Refuses, Adds}
 use Rattle.ph_calls.specs.declared.call.CreateIntent.{CreateIntent}
 use Rattle.ph_calls.specs.declared.call.UpdateIntent.{UpdateIntent}
 use Rattle.ph_errors.specs.Table.{error_of, AmountTooSmall}
-use Rattle.ph_money.specs.Currencies.{terms_of}
 use Rattle.ph_rows.specs.declared.rows.Row.{Row}
 use Rattle.ph_items.specs.declared.event_kinds.EventKind.TheVariants as event
 use Rattle.ph_items.specs.declared.intents.Intent.{Intent}
@@ -18,7 +17,8 @@ use Rattle.ph_items.specs.declared.intents.PaymentError.TheVariants as payment_e
 use Rattle.ph_items.specs.declared.items.Item.TheVariants as item
 use Rattle.ph_items.specs.declared.payment_methods.PaymentMethod.{PaymentMethod}
 use Rattle.ph_rows.specs.Batches.{last_place}
-use Rattle.ph_facts.proofs.DoneLemmas.{none_given, too_small, wrong_state, wrong_value}
+use Rattle.ph_rows.specs.Views.{ViewState}
+use Rattle.ph_facts.proofs.DoneLemmas.{no_object, none_given, too_small, wrong_state, wrong_value}
 use Rattle.ph_facts.proofs.UnderwayLemmas.{IsUnderway}
 use Rattle.ph_facts.specs.Keeps.{MayBeDone}
 use Rattle.ph_facts.specs.Statuses.{may_put}
@@ -28,13 +28,15 @@ use Rattle.ph_intents.specs.Attempts.{attempted}
 use Rattle.ph_intents.specs.Authenticate.{authenticate_of, authenticate_outcome, authenticated_intent, fail_of, fail_authentication_outcome, failed_intent}
 use Rattle.ph_intents.specs.Cancel.{cancel_of, cancel_outcome, canceled_intent}
 use Rattle.ph_intents.specs.Confirm.{confirm_of, confirm_with, confirm_outcome, paying_intent}
-use Rattle.ph_intents.specs.Create.{new_intent, first_status, create_outcome, create_by, create_confirmed_outcome}
+use Rattle.ph_intents.specs.Create.{new_intent, first_status, create_outcome, create_by, create_confirmed_outcome, create_to}
+use Rattle.ph_intents.specs.Destinations.{connected_named, destination_of, to_found, with_destination}
+use Rattle.ph_intents.specs.Fees.{is_wrong_fee}
 use Rattle.ph_intents.specs.Keeps.{AreUtf8, KeepsRows, KeepsSound, batch_after, create_texts, update_texts, confirm_texts, no_texts}
 use Rattle.ph_kinds.specs.Kept.{first_metadata, named_texts}
 use Rattle.ph_kinds.proofs.KeptLemmas.{first_kept}
 use Rattle.ph_intents.specs.Refusals.{invalid_value}
 use Rattle.ph_intents.specs.Statuses.{next_status}
-use Rattle.ph_intents.specs.Update.{led, most_keys, step_of, update_with, update_of, updated_intent, update_outcome}
+use Rattle.ph_intents.specs.Update.{is_too_small, led, most_keys, step_of, update_with, update_of, updated_intent, update_outcome}
 use Rattle.ph_intents.specs.Versions.{with_version, adds_told}
 use Rattle.ph_intents.specs.declared.statuses.Step.TheVariants as step
 use Rattle.ph_intents.proofs.EnterLemmas.{Waits, created_underway, created_enters, new_number, told_enters, version_enters}
@@ -50,9 +52,9 @@ other_texts intent =
 -- ---- the creates
 
 -- the texts of a new payment intent
-new_texts : (call : CreateIntent) (status : IntentStatus) → AreUtf8 (create_texts call)
-    → AreUtf8 (texts_of (item.Intent (new_intent call status)))
-new_texts call status texts =
+new_texts : (call : CreateIntent) (destination : Option ℕ) (status : IntentStatus) → AreUtf8 (create_texts call)
+    → AreUtf8 (texts_of (item.Intent (new_intent call destination status)))
+new_texts call destination status texts =
     let group = with_text call.transfer_group (named_texts call.metadata) in
     let one = front_text (method_text call.payment_method) (with_text call.description group) texts in
     let two = front_text call.description group one.1 in
@@ -73,24 +75,39 @@ first_may : (method : Option PaymentMethod) → may_put None (first_status metho
 first_may None = refl
 first_may (Some method) = refl
 
+-- a create is refused where its destination isn't there, and else is what is made with it
+destination_keeps : (state : ViewState) (most : ℕ) (make : Option ℕ → Outcome) (named : Option (List ℕ))
+    → ((destination : Option ℕ) → KeepsRows state most (make destination))
+    → KeepsRows state most (with_destination make (destination_of state.rows named))
+destination_keeps state most make None keeps = keeps None
+destination_keeps state most make (Some text) keeps = at (connected_named state.rows text)
+  where
+    at : (found : Option ℕ) → KeepsRows state most (with_destination make (to_found found))
+    at None = no_object (codes "transfer_data[destination]")
+    at (Some account) = keeps (Some account)
+
 pub create_keeps : KeepsSound create_texts 2 create_outcome
 create_keeps state entry account call ready texts =
-    let intent = new_intent call (first_status call.payment_method) in
-    let kept = new_texts call (first_status call.payment_method) texts in
+    destination_keeps state 2 (λ destination. create_to account call (batch_after state entry) destination) call.destination
+    (λ destination.
+    let intent = new_intent call destination (first_status call.payment_method) in
+    let kept = new_texts call destination (first_status call.payment_method) texts in
     told_enters state entry account (last_place (batch_after state entry) + 1) intent event.IntentCreated ready
     (created_underway state entry account intent ready kept tt) refl
     (λ waits. absurd (never_waits call.payment_method waits))
-    (ap (λ old. may_put old intent.status) (new_number state entry ready) ∙ first_may call.payment_method)
+    (ap (λ old. may_put old intent.status) (new_number state entry ready) ∙ first_may call.payment_method))
 
 pub create_confirmed_keeps : KeepsSound create_texts 3 create_confirmed_outcome
-create_confirmed_keeps state entry account call ready texts = at call.payment_method
+create_confirmed_keeps state entry account call ready texts =
+    destination_keeps state 3 (λ destination. create_by account call (batch_after state entry) call.payment_method destination) call.destination
+    (λ destination. at call.payment_method destination)
   where
-    at : (method : Option PaymentMethod)
-        → KeepsRows state 3 (create_by account call (batch_after state entry) method)
-    at None = none_given (codes "payment_method")
-    at (Some method) =
-        created_enters state entry account (new_intent call status.Processing) method.method ready
-        (new_texts call status.Processing texts) tt (λ waits. absurd (cc)) refl
+    at : (method : Option PaymentMethod) (destination : Option ℕ)
+        → KeepsRows state 3 (create_by account call (batch_after state entry) method destination)
+    at None destination = none_given (codes "payment_method")
+    at (Some method) destination =
+        created_enters state entry account (new_intent call destination status.Processing) method.method ready
+        (new_texts call destination status.Processing texts) tt (λ waits. absurd (cc)) refl
 
 -- ---- the calls that change a payment intent, its texts as they were
 
@@ -202,25 +219,28 @@ update_keeps state entry account call ready texts =
     (λ row intent found.
     let kept = found_texts state account row intent ready.sound found in
     let updated = updated_intent call intent in
-    keeps_allowed state 1 (λ status. update_with account batch row.object intent.status (updated status))
+    keeps_allowed state 1 (λ status. update_with account call.application_fee_amount batch row.object intent.status (updated status))
     (next_status intent.status (step_of call))
     (λ status to. with_updated row.object intent.status (updated status)
     (found_underway state entry account row intent (updated status) ready found (updated_texts call intent status texts kept) refl)
     (found_waits state account row intent (updated status) ready.sound found
     (record { charge = refl; amount = λ here. refl; waits = waited_before intent.status (step_of call) status to }))
     (may_update state.rows row.object intent.status status (is_some call.payment_method)
-    (is_some call.amount || is_some call.currency || is_some call.transfer_group) (found_status state account row intent found) to)))
+    (is_some call.amount || is_some call.currency || is_some call.application_fee_amount || is_some call.transfer_group) (found_status state account row intent found) to)))
   where
     with_updated : (object : ℕ) (old : IntentStatus) (intent : Intent) → IsUnderway state (with_version account object intent (batch_after state entry))
         → Waits state object intent → MayBeDone state.rows (led object old intent.status)
-        → KeepsRows state 1 (update_with account (batch_after state entry) object old intent)
+        → KeepsRows state 1 (update_with account call.application_fee_amount (batch_after state entry) object old intent)
     with_updated object old intent underway waits may =
         let keys = nat_lt most_keys (length intent.metadata) in
         let adds = Adds (led object old intent.status) object (with_version account object intent (batch_after state entry)) in
         let many = invalid_value (codes "metadata") in
-        cond_both (nat_lt intent.amount (terms_of intent.currency).minimum) (Refuses (error_of AmountTooSmall))
-        (cond keys many adds) (KeepsRows state 1) (λ small. too_small)
-        (λ enough. cond_both keys many adds (KeepsRows state 1) (λ above. wrong_value (codes "metadata"))
+        let wrong = is_wrong_fee account intent.destination call.application_fee_amount intent.amount in
+        let fee = invalid_value (codes "application_fee_amount") in
+        cond_both (is_too_small intent) (Refuses (error_of AmountTooSmall))
+        (cond wrong fee (cond keys many adds)) (KeepsRows state 1) (λ small. too_small)
+        (λ enough. cond_both wrong fee (cond keys many adds) (KeepsRows state 1) (λ taken. wrong_value (codes "application_fee_amount"))
+        (λ right. cond_both keys many adds (KeepsRows state 1) (λ above. wrong_value (codes "metadata"))
         (λ within. (
           record {
             enters = version_enters state entry account object intent ready underway waits;
@@ -228,4 +248,4 @@ update_keeps state entry account call ready texts =
             shown = shows_led object old intent.status;
           },
           may,
-        )))
+        ))))

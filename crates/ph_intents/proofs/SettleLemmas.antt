@@ -2,14 +2,18 @@
 use Rattle.std.specs.Prelude.{option_and_then}
 use Rattle.std.proofs.Common.{◌≡◌, ℕ, ◌+◌, ◌≤◌, ◌<◌, ◌^◌, false, List, [], ◌∷◌, ◌++◌, Option, Some, length, refl, sym, ap, ◌∙◌, subst, arith}
 use Rattle.std.specs.List.{list_any}
+use Rattle.std.proofs.lemmas.List.{length-append}
 use Rattle.ph_base.specs.declared.acquirer.Ruling.{Ruling}
 use Rattle.ph_base.specs.declared.acquirer.Ruling.TheVariants as ruling
 use Rattle.ph_base.specs.declared.ids.Kind.TheVariants as kind
 use Rattle.ph_charges.specs.Approvals.{charge_number, decline_of, with_approved}
-use Rattle.ph_charges.specs.Charges.{new_charge, next_capture, with_captured}
-use Rattle.ph_charges.specs.Charges as charges
+use Rattle.ph_charges.specs.Charges.{new_charge, with_captured}
+use Rattle.ph_charges.specs.Told.{split_events}
+use Rattle.ph_charges.proofs.SplitLemmas.{captured_few, captured_has, captured_leaves, captured_row, captured_shows, captured_silent, captured_tells}
+use Rattle.ph_charges.proofs.TellLemmas.{events_both, told_added}
 use Rattle.ph_charges.proofs.EntryLemmas.{approval_underway, decline_underway}
 use Rattle.ph_charges.proofs.SumLemmas.{approval_keeps, decline_keeps}
+use Rattle.ph_rows.specs.declared.batches.Announced.{Announced}
 use Rattle.ph_rows.specs.declared.rows.Row.{Row}
 use Rattle.ph_items.specs.declared.attempts.Attempt.{Attempt}
 use Rattle.ph_items.specs.declared.charges.Charge.{Charge}
@@ -24,7 +28,8 @@ use Rattle.ph_items.specs.declared.attempts.AttemptState.TheVariants as attempt_
 use Rattle.ph_items.specs.declared.intents.IntentStatus.{IntentStatus}
 use Rattle.ph_items.specs.declared.intents.IntentStatus.TheVariants as status
 use Rattle.ph_items.specs.declared.orders.Order.{Order}
-use Rattle.ph_facts.specs.Shown.{ShowsAttempt, ShowsIntent}
+use Rattle.ph_facts.specs.Shown.{Shown, ShowsAttempt, ShowsIntent, shown_in, shows}
+use Rattle.ph_facts.proofs.DoneLemmas.{shown_after}
 use Rattle.ph_facts.specs.Touches.{Touch, Settles}
 use Rattle.ph_items.specs.declared.intents.PaymentError.TheVariants as payment_error
 use Rattle.ph_items.specs.declared.items.Item.TheVariants as item
@@ -43,12 +48,12 @@ use Rattle.ph_rows.proofs.RowLemmas.{row_at_within}
 use Rattle.ph_facts.proofs.HeldLemmas.{AllLeave, IsApart, Leaves, held_known, later_is_loose}
 use Rattle.ph_facts.proofs.SoundLemmas.{latest_of_sound}
 use Rattle.ph_facts.proofs.LawLemmas.{is_of_amounts, laws_held}
-use Rattle.ph_facts.proofs.OrderLemmas.{origin_stands, origins_stand, texts_stand}
+use Rattle.ph_facts.proofs.OrderLemmas.{order_with_all, origin_stands, origins_stand, stands_behind, texts_stand}
 use Rattle.ph_facts.proofs.OriginLemmas.{has_begun_origin, has_begun_still, have_begun-before}
 use Rattle.ph_facts.proofs.UnderwayLemmas.{IsUnderway, underway_further, underway_told}
 use Rattle.ph_intents.specs.Keeps.{AreUtf8, IsDone, IsReady, MayBeAdded, SettleKeepsSound, batch_after}
 use Rattle.ph_intents.specs.Settle.{settled_attempt, approved_intent, approved_event, settled_intent, settle_both, settle_intent, settle_attempt, settle_outcome, settle_row, with_latest_charge, with_ruling, with_settled}
-use Rattle.ph_intents.specs.Versions.{with_told}
+use Rattle.ph_intents.specs.Versions.{with_all_told, with_told}
 use Rattle.ph_intents.proofs.HoldLemmas.{each_begun}
 use Rattle.ph_intents.proofs.EnterLemmas.{begins, enters, last_version, other_version}
 use Rattle.ph_intents.proofs.KeepsLemmas.{failed_texts}
@@ -70,7 +75,7 @@ record IsIntent (state : ViewState) (row : Row) (intent : Intent) : Type 0 where
 -- a batch is under way with them, they are few, and leave what is held for other payment intents
 record IsRuled (state : ViewState) (object : ℕ) (batch : BatchState) : Type 0 where
   pub underway : IsUnderway state batch
-  pub few : length batch.rows ≤ 3
+  pub few : length batch.rows ≤ 9
   pub leave : (other : ℕ) → (other ≡ object → ⊥) → AllLeave state.rows other batch.rows
 
 -- rows that leave what is held, and one more
@@ -91,7 +96,7 @@ ruled_enters : (state : ViewState) (row : Row) (old new : Intent) (sort : EventK
 ruled_enters state row old new sort batch ready there ruled texts subject named kept held =
     let version = next_row batch row.object row.account (item.Intent new) in
     let room = ready.room in
-    let few : length batch.rows ≤ 3 = ruled.few in
+    let few : length batch.rows ≤ 9 = ruled.few in
     enters state (with_told row.account row.object new sort batch) row.object ready.sound
     (underway_told state batch row.object row.account (item.Intent new) sort
     (underway_further state batch row (item.Intent new) ready.sound.order ruled.underway there.stands (omega arith)
@@ -122,7 +127,7 @@ settled_ruled state entry how row attempt object ready stood = record {
 -- what a ruling makes of an attempt and its payment intent
 settled_enters : (state : ViewState) (entry : ℕ) (how : Ruling) (row intent_row : Row) (attempt : Attempt) (intent : Intent)
     → IsReady state → IsAttempt state row attempt intent_row.object → IsIntent state intent_row intent
-    → MayBeAdded state 6 (Settles intent_row.object attempt.order intent.capture_method how)
+    → MayBeAdded state 14 (Settles intent_row.object attempt.order intent.capture_method how)
     (with_ruling how intent_row.account intent_row.object intent (with_settled how row attempt (batch_after state entry)))
 settled_enters state entry how row intent_row attempt intent ready stood there = ruled how
   where
@@ -177,8 +182,8 @@ settled_enters state entry how row intent_row attempt intent ready stood there =
     captured : BatchState
     captured = with_announced (with_captured account number charge charge.amount (before ruling.Approved)) event.ChargeSucceeded number
 
-    captured_charge : Charge
-    captured_charge = charges.captured_charge charge.amount (next_capture charge (before ruling.Approved)) charge
+    captured_rows : length captured.rows ≤ 9
+    captured_rows = captured_few account number charge charge.amount (before ruling.Approved)
 
     -- the row of the new charge
     charge_row : Charge → Row
@@ -191,6 +196,15 @@ settled_enters state entry how row intent_row attempt intent ready stood there =
     loose : (other : ℕ) → IsApart state.rows other number
     loose other = later_is_loose state number ready.sound.order ready.sound.laws.held later other
 
+    -- it has begun with the rows of its capture
+    charge_begun : IsUnderway state captured → IsOrigin (row_at number (state.rows ++ captured.rows)) (record { kind = kind.Charge; number = number })
+    charge_begun underway =
+        let row = captured_row account number charge charge.amount (before ruling.Approved) in
+        let order = order_with_all state captured.rows ready.sound.order underway.continues.follow in
+        let has = captured_has account number charge charge.amount (before ruling.Approved) in
+        has_begun_origin (row_at number (state.rows ++ captured.rows)) row
+        (order.begun row.place row (stands_behind state captured.rows (length (before ruling.Approved).rows) row order has))
+
     -- captured at once
     whole : (new : Intent) → status.Succeeded ≡ new.status → AreUtf8 (texts_of (item.Intent new)) → IsUnderway state captured
         → ((behind : List Row) → list_any is_of_amounts behind ≡ false → AreHeld (state.rows ++ (captured.rows ++ behind)) → KeepLaws (state.rows ++ (captured.rows ++ behind)))
@@ -199,11 +213,12 @@ settled_enters state entry how row intent_row attempt intent ready stood there =
         ruled_enters state intent_row intent new event.IntentSucceeded captured ready there
         (record {
           underway = underway;
-          few = omega arith;
-          leave = λ other differs. (tt, (loose other, (tt, tt)));
+          few = captured_rows;
+          leave = λ other differs. captured_leaves state other account number charge charge.amount (before ruling.Approved) ready.sound.order
+              ready.sound.laws.held (omega arith) (tt, tt) (loose other);
         }) new_texts refl
         (subst (λ (charge : Option ℕ). HasOrigins (state.rows ++ captured.rows) (charge_named charge)) (sym latest)
-        (has_begun_origin _ (charge_row captured_charge) (each_begun state captured.rows underway.continues.follow).1.0, tt))
+        (charge_begun underway, tt))
         (keeps (version new captured ∷ []) refl)
         (λ here. absurd (let clash : status.Succeeded ≡ status.RequiresCapture = succeeded ∙ here in cc))
 
@@ -252,25 +267,64 @@ settled_enters state entry how row intent_row attempt intent ready stood there =
         ap (λ n. ShowsAttempt n attempt.intent attempt.order at ∷ ShowsIntent object found ∷ []) stood.named
         ∙ ap (λ n. ShowsAttempt attempt.order.reference n attempt.order at ∷ ShowsIntent object found ∷ []) stood.of
 
+    -- how many rows and events they are
+    whole_few : (new : Intent) → length (with_told account object new event.IntentSucceeded captured).rows
+        + length (with_told account object new event.IntentSucceeded captured).announced ≤ 12
+    whole_few new =
+        let rows = captured_rows in
+        let all : length (captured.rows ++ version new captured ∷ []) ≡ length captured.rows + 1 = length-append captured.rows (version new captured ∷ []) in
+        let events : length (with_told account object new event.IntentSucceeded captured).announced ≡ 2 =
+        ap (λ (a : List Announced). length ((a ++ record { sort = event.ChargeSucceeded; object = number } ∷ []) ++ record { sort = event.IntentSucceeded; object = object } ∷ []))
+        (captured_silent account number charge charge.amount (before ruling.Approved)) in
+        omega arith
+
+    whole_tells : (new : Intent) → length (split_events (captured.rows ++ version new captured ∷ [])) ≤ 2
+    whole_tells new =
+        let rows : length (split_events captured.rows) ≤ 2 = captured_tells account number charge charge.amount (before ruling.Approved) in
+        let both : length (split_events (captured.rows ++ version new captured ∷ [])) ≡ length (split_events captured.rows) + 0 =
+        events_both captured.rows (version new captured ∷ []) in
+        omega arith
+
+    whole_shown : (new : Intent) → status.Succeeded ≡ new.status
+        → shown_in (captured.rows ++ version new captured ∷ []) ≡ ShowsAttempt attempt.order.reference object attempt.order attempt_state.Approved ∷ ShowsIntent object status.Succeeded ∷ []
+    whole_shown new succeeded =
+        shown_after captured.rows (version new captured ∷ [])
+        ∙ ap (λ (s : List Shown). s ++ ShowsIntent object new.status ∷ []) (captured_shows account number charge charge.amount (before ruling.Approved))
+        ∙ ap (λ (s : IntentStatus). ShowsAttempt row.object attempt.intent attempt.order attempt_state.Approved ∷ ShowsIntent object s ∷ []) (sym succeeded)
+        ∙ shows_both attempt_state.Approved status.Succeeded
+
     ruled : (how : Ruling)
-        → MayBeAdded state 6 (Settles object attempt.order intent.capture_method how) (with_ruling how account object intent (before how))
+        → MayBeAdded state 14 (Settles object attempt.order intent.capture_method how) (with_ruling how account object intent (before how))
     ruled ruling.Approved = added intent.capture_method refl
       where
+        at_once : (capture : CaptureMethod) (new : Intent) → MayBeEntered state (with_told account object new event.IntentSucceeded captured)
+            → status.Succeeded ≡ new.status
+            → shows (Settles object attempt.order capture ruling.Approved) ≡ ShowsAttempt attempt.order.reference object attempt.order attempt_state.Approved ∷ ShowsIntent object status.Succeeded ∷ []
+            → MayBeAdded state 14 (Settles object attempt.order capture ruling.Approved) (with_all_told account object new event.IntentSucceeded captured)
+        at_once capture new enters succeeded shows_it =
+            told_added state 12 (Settles object attempt.order capture ruling.Approved) (with_told account object new event.IntentSucceeded captured) ready.sound
+            (record { enters = enters; few = whole_few new; shown = whole_shown new succeeded ∙ sym shows_it }) (whole_tells new)
+
         added : (capture : CaptureMethod) → intent.capture_method ≡ capture
-            → MayBeAdded state 6 (Settles object attempt.order capture ruling.Approved)
-            (with_told account object (with_latest_charge (Some number) (approved_intent capture intent)) (approved_event capture) (approved_is capture))
+            → MayBeAdded state 14 (Settles object attempt.order capture ruling.Approved)
+            (with_all_told account object (with_latest_charge (Some number) (approved_intent capture intent)) (approved_event capture) (approved_is capture))
         added capture_method.Automatic e =
-            record { enters = approved capture_method.Automatic e; few = omega arith; shown = shows_both attempt_state.Approved status.Succeeded }
+            at_once capture_method.Automatic (with_latest_charge (Some number) (approved_intent capture_method.Automatic intent)) (approved capture_method.Automatic e) refl refl
         added capture_method.AutomaticAsync e =
-            record { enters = approved capture_method.AutomaticAsync e; few = omega arith; shown = shows_both attempt_state.Approved status.Succeeded }
+            at_once capture_method.AutomaticAsync (with_latest_charge (Some number) (approved_intent capture_method.AutomaticAsync intent)) (approved capture_method.AutomaticAsync e) refl refl
         added capture_method.Manual e =
-            record { enters = approved capture_method.Manual e; few = omega arith; shown = shows_both attempt_state.Approved status.RequiresCapture }
+            told_added state 12 (Settles object attempt.order capture_method.Manual ruling.Approved)
+            (with_told account object (with_latest_charge (Some number) (approved_intent capture_method.Manual intent)) event.IntentAmountCapturableUpdated held) ready.sound
+            (record { enters = approved capture_method.Manual e; few = omega arith; shown = shows_both attempt_state.Approved status.RequiresCapture }) (omega arith)
     ruled (ruling.Declined decline) =
         let batch = decline_of account object intent (before (ruling.Declined decline)) in
         let new = settled_intent (ruling.Declined decline) (Some number) intent in
         let underway = decline_underway state (before (ruling.Declined decline)) account object intent ready.sound.order
         (begun (ruling.Declined decline)).underway (omega arith) texts (paid (before (ruling.Declined decline))) in
-        let failed = next_row (before (ruling.Declined decline)) number account (item.Charge (new_charge object intent charge_status.Failed)) in record {
+        let failed = next_row (before (ruling.Declined decline)) number account (item.Charge (new_charge object intent charge_status.Failed)) in
+        told_added state 12 (Settles object attempt.order intent.capture_method (ruling.Declined decline))
+        (with_told account object new event.IntentPaymentFailed batch) ready.sound
+        (record {
           few = omega arith;
           shown = shows_both attempt_state.Declined status.RequiresPaymentMethod;
           enters = ruled_enters state intent_row intent new event.IntentPaymentFailed batch ready there
@@ -282,25 +336,28 @@ settled_enters state entry how row intent_row attempt intent ready stood there =
               (has_begun_origin _ failed (each_begun state batch.rows underway.continues.follow).1.0, tt)
               (decline_keeps state account object intent (before (ruling.Declined decline)) (version new batch ∷ []) ready.sound refl refl refl)
               (λ here. absurd (cc));
-        }
+        }) (omega arith)
     ruled ruling.Challenge =
         let batch = before ruling.Challenge in
-        let new = settled_intent ruling.Challenge intent.latest_charge intent in record {
+        let new = settled_intent ruling.Challenge intent.latest_charge intent in
+        told_added state 12 (Settles object attempt.order intent.capture_method ruling.Challenge)
+        (with_told account object new event.IntentRequiresAction batch) ready.sound
+        (record {
           few = omega arith;
           shown = shows_both attempt_state.Challenged status.RequiresAction;
           enters = ruled_enters state intent_row intent new event.IntentRequiresAction batch ready there (begun ruling.Challenge) texts refl (before_it batch)
               (laws_held state.rows (batch.rows ++ version new batch ∷ []) refl ready.sound.laws)
               (λ here. absurd (cc));
-        }
+        }) (omega arith)
 
 -- ---- a ruling on an attempt
 
 pub settle_keeps : SettleKeepsSound
 settle_keeps state entry intent order how ready attempt there =
-    subst (IsDone state 6 (Settles intent order there.intent.capture_method how) intent) (sym comes_to) (
+    subst (IsDone state 14 (Settles intent order there.intent.capture_method how) intent) (sym comes_to) (
       same,
       number,
-      subst (λ (t : Touch). MayBeAdded state 6 t (with_ruling how there.row.account there.row.object there.intent (with_settled how attempt.row attempt.attempt batch))) same
+      subst (λ (t : Touch). MayBeAdded state 14 t (with_ruling how there.row.account there.row.object there.intent (with_settled how attempt.row attempt.attempt batch))) same
           (settled_enters state entry how attempt.row there.row attempt.attempt there.intent ready
           (record {
             stands = first.0;

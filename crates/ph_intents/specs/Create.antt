@@ -15,6 +15,7 @@ use Rattle.ph_items.specs.declared.payment_methods.PaymentMethod.{PaymentMethod}
 use Rattle.ph_items.specs.declared.event_kinds.EventKind.TheVariants as event
 use Rattle.ph_rows.specs.Batches.{BatchState, last_place, with_announced}
 use Rattle.ph_intents.specs.Attempts.{begins, with_attempt}
+use Rattle.ph_intents.specs.Destinations.{destination_of, with_destination}
 use Rattle.ph_intents.specs.Versions.{with_version, adds_told}
 
 -- where a payment intent begins: it waits for a payment method, or for its confirmation where it has one
@@ -22,9 +23,10 @@ abbrev pub first_status : Option PaymentMethod → IntentStatus
 first_status None = status.RequiresPaymentMethod
 first_status (Some method) = status.RequiresConfirmation
 
--- the first version of a payment intent, in a status: each field from the call, or its default
-abbrev pub new_intent : CreateIntent → IntentStatus → Intent
-new_intent call status = record {
+-- the first version of a payment intent with a destination or none, in a status: each other field from the call, or its
+-- default
+abbrev pub new_intent : CreateIntent → Option ℕ → IntentStatus → Intent
+new_intent call destination status = record {
   amount = call.amount;
   amount_capturable = 0;
   amount_received = 0;
@@ -35,16 +37,23 @@ new_intent call status = record {
   cancellation_reason = None;
   last_payment_error = None;
   latest_charge = None;
+  application_fee_amount = call.application_fee_amount;
+  destination = destination;
   description = call.description;
   metadata = first_metadata call.metadata;
   transfer_group = call.transfer_group;
 }
 
--- the create: the payment intent has the next place as its number, and is announced; it is never refused
+-- the create to a destination or none: the payment intent has the next place as its number, and is announced
+abbrev pub create_to : ℕ → CreateIntent → BatchState → Option ℕ → Outcome
+create_to account call batch destination =
+    adds_told account (last_place batch + 1) (new_intent call destination (first_status call.payment_method))
+    event.IntentCreated batch
+
+-- the create: it is refused where its destination is no connected account
 abbrev pub create_outcome : List Row → ℕ → CreateIntent → BatchState → Outcome
 create_outcome rows account call batch =
-    adds_told account (last_place batch + 1) (new_intent call (first_status call.payment_method)) event.IntentCreated
-    batch
+    with_destination (λ destination. create_to account call batch destination) (destination_of rows call.destination)
 
 -- the batch with a new payment intent of a number, and its attempt to be paid by a method
 abbrev pub with_both : ℕ → ℕ → Intent → Method → BatchState → BatchState
@@ -60,12 +69,15 @@ created_with account intent method batch =
     (with_announced (with_both account (last_place batch + 1) intent method batch) event.IntentCreated
     (last_place batch + 1))
 
--- the create that is confirmed at once, with its payment method; without one it is refused as its request is
-abbrev pub create_by : ℕ → CreateIntent → BatchState → Option PaymentMethod → Outcome
-create_by account call batch None = Refuses (error_of (ParameterMissing (codes "payment_method")))
-create_by account call batch (Some method) =
-    created_with account (new_intent call status.Processing) method.method batch
+-- the create that is confirmed at once, to a destination or none, with its payment method; without one it is refused as its
+-- request is
+abbrev pub create_by : ℕ → CreateIntent → BatchState → Option PaymentMethod → Option ℕ → Outcome
+create_by account call batch None destination = Refuses (error_of (ParameterMissing (codes "payment_method")))
+create_by account call batch (Some method) destination =
+    created_with account (new_intent call destination status.Processing) method.method batch
 
 -- the create that is confirmed at once
 abbrev pub create_confirmed_outcome : List Row → ℕ → CreateIntent → BatchState → Outcome
-create_confirmed_outcome rows account call batch = create_by account call batch call.payment_method
+create_confirmed_outcome rows account call batch =
+    with_destination (λ destination. create_by account call batch call.payment_method destination)
+    (destination_of rows call.destination)

@@ -36,5 +36,5 @@ abbrev pub SettleKeepsSound : Type 0
 SettleKeepsSound =
     (state : ViewState) (entry intent : ℕ) (order : Order) (ruling : Ruling) → IsReady state
     → HasAttempt state.rows order.reference intent order attempt_state.Live → (there : HasIntent state.rows intent status.Processing)
-    → IsDone state 6 (Settles intent order there.intent.capture_method ruling) intent
+    → IsDone state 14 (Settles intent order there.intent.capture_method ruling) intent
     (settle_outcome state.rows order.reference ruling (batch_after state entry))

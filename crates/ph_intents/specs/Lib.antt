@@ -5,6 +5,8 @@ pub mod Cancel
 pub mod Capture
 pub mod Confirm
 pub mod Create
+pub mod Destinations
+pub mod Fees
 pub mod Keeps
 pub mod Laws
 pub mod Metadata

@@ -21,7 +21,7 @@ use Rattle.ph_items.specs.Items.{attempt_in, intent_in}
 use Rattle.ph_rows.specs.Rows.{latest_of}
 use Rattle.ph_intents.specs.Authenticate.{failed_intent}
 use Rattle.ph_intents.specs.Capture.{received_intent}
-use Rattle.ph_intents.specs.Versions.{with_told}
+use Rattle.ph_intents.specs.Versions.{with_all_told}
 
 -- an attempt after a ruling
 abbrev pub settled_attempt : Ruling → Attempt → Attempt
@@ -78,10 +78,10 @@ settled_event (ruling.Declined decline) capture = event.IntentPaymentFailed
 settled_event ruling.Challenge capture = event.IntentRequiresAction
 
 -- the batch with what a ruling makes of a payment intent of an account: its charge, and a further version, which an event
--- tells
+-- tells, and behind that the events of the split
 abbrev pub with_ruling : Ruling → ℕ → ℕ → Intent → BatchState → BatchState
 with_ruling ruling account object intent batch =
-    with_told account object (settled_intent ruling (charge_after ruling intent batch) intent)
+    with_all_told account object (settled_intent ruling (charge_after ruling intent batch) intent)
     (settled_event ruling intent.capture_method) (with_charge ruling account object intent batch)
 
 -- nothing to be settled is there

@@ -1,5 +1,5 @@
 -- The update.
-use Rattle.std.specs.Prelude.{ℕ, Bool, true, false, ◌==◌, ◌||◌, nat_lt, if◌then◌else◌, List, length, unwrap_or, codes}
+use Rattle.std.specs.Prelude.{ℕ, Bool, true, false, ◌==◌, ◌||◌, nat_lt, if◌then◌else◌, List, length, Option, unwrap_or, codes}
 use Rattle.std.specs.Option.{is_some, option_or}
 use Rattle.ph_calls.specs.declared.call.UpdateIntent.{UpdateIntent}
 use Rattle.ph_facts.specs.Outcomes.{Outcome, Refuses, Adds}
@@ -12,6 +12,7 @@ use Rattle.ph_items.specs.declared.intents.IntentStatus.{IntentStatus}
 use Rattle.ph_rows.specs.Batches.{BatchState}
 use Rattle.ph_intents.specs.declared.statuses.Step.{Step}
 use Rattle.ph_intents.specs.declared.statuses.Step.TheVariants as step
+use Rattle.ph_intents.specs.Fees.{is_wrong_fee}
 use Rattle.ph_intents.specs.Metadata.{merged_metadata}
 use Rattle.ph_intents.specs.Refusals.{made_at, if_allowed, invalid_value}
 use Rattle.ph_intents.specs.Statuses.{line_number, next_status}
@@ -26,7 +27,7 @@ step_by false false = step.Describe
 -- the step of an update
 abbrev pub step_of : UpdateIntent → Step
 step_of call =
-    step_by (is_some call.payment_method) (is_some call.amount || is_some call.currency || is_some call.transfer_group)
+    step_by (is_some call.payment_method) (is_some call.amount || is_some call.currency || is_some call.application_fee_amount || is_some call.transfer_group)
 
 -- a payment intent after an update: what is named is set, and all else is as it was
 abbrev pub updated_intent : UpdateIntent → Intent → IntentStatus → Intent
@@ -37,6 +38,7 @@ updated_intent call intent status = record intent {
   payment_method = option_or call.payment_method intent.payment_method;
   description = option_or call.description intent.description;
   metadata = merged_metadata call.metadata intent.metadata;
+  application_fee_amount = option_or call.application_fee_amount intent.application_fee_amount;
   transfer_group = option_or call.transfer_group intent.transfer_group;
 }
 
@@ -49,17 +51,23 @@ most_keys = 50
 abbrev pub led : ℕ → IntentStatus → IntentStatus → Touch
 led object old new = if line_number old == line_number new then Edits object new else Puts object new
 
--- a version that results from an update at a status, with an amount of at least the currency's minimum and at most 50 keys
-abbrev pub update_with : ℕ → BatchState → ℕ → IntentStatus → Intent → Outcome
-update_with account batch object old intent =
-    if nat_lt intent.amount (terms_of intent.currency).minimum then Refuses (error_of AmountTooSmall)
+-- the amount of a payment intent is below the minimum of its currency
+abbrev pub is_too_small : Intent → Bool
+is_too_small intent = nat_lt intent.amount (terms_of intent.currency).minimum
+
+-- a version that results from an update at a status, with an amount of at least the currency's minimum, a fee that is
+-- possible where one is named, and at most 50 keys
+abbrev pub update_with : ℕ → Option ℕ → BatchState → ℕ → IntentStatus → Intent → Outcome
+update_with account fee batch object old intent =
+    if is_too_small intent then Refuses (error_of AmountTooSmall)
+    else if is_wrong_fee account intent.destination fee intent.amount then invalid_value (codes "application_fee_amount")
     else if nat_lt most_keys (length intent.metadata) then invalid_value (codes "metadata")
     else Adds (led object old intent.status) object (with_version account object intent batch)
 
 -- the update of a payment intent, where its status allows it
 abbrev pub update_of : ℕ → UpdateIntent → BatchState → ℕ → Intent → Outcome
 update_of account call batch object intent =
-    if_allowed (λ status. update_with account batch object intent.status (updated_intent call intent status))
+    if_allowed (λ status. update_with account call.application_fee_amount batch object intent.status (updated_intent call intent status))
     (next_status intent.status (step_of call))
 
 -- the update of the payment intent that the path names

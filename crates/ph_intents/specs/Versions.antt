@@ -1,5 +1,6 @@
 -- Versions of a payment intent in a batch.
 use Rattle.std.specs.Prelude.{ℕ}
+use Rattle.ph_charges.specs.Told.{with_split_told}
 use Rattle.ph_facts.specs.Outcomes.{Outcome, Adds}
 use Rattle.ph_facts.specs.Touches.{Puts}
 use Rattle.ph_items.specs.declared.intents.Intent.{Intent}
@@ -19,3 +20,7 @@ with_told account object intent sort batch = with_announced (with_version accoun
 abbrev pub adds_told : ℕ → ℕ → Intent → EventKind → BatchState → Outcome
 adds_told account object intent sort batch =
     Adds (Puts object intent.status) object (with_told account object intent sort batch)
+
+-- the batch with a version of a payment intent, which an event tells, and the events of the split of its charge behind it
+abbrev pub with_all_told : ℕ → ℕ → Intent → EventKind → BatchState → BatchState
+with_all_told account object intent sort batch = with_split_told (with_told account object intent sort batch)

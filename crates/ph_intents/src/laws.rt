@@ -25,7 +25,7 @@ pub fn calls_keep_sound()
     ensures confirm { KeepsSound confirm_texts 2 confirm_outcome }
     ensures authenticate { KeepsSound no_texts 2 authenticate_outcome }
     ensures fail_authentication { KeepsSound no_texts 2 fail_authentication_outcome }
-    ensures capture { KeepsSound no_texts 5 capture_outcome }
+    ensures capture { KeepsSound no_texts 13 capture_outcome }
     ensures cancel { KeepsSound no_texts 2 cancel_outcome }
 {}
 

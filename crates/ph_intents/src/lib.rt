@@ -10,6 +10,8 @@ mod capturing;
 mod confirming;
 mod copies;
 mod creation;
+mod destinations;
+mod fees;
 mod laws;
 mod metadata;
 mod refusals;

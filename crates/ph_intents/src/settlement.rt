@@ -6,7 +6,7 @@ ghost use Rattle.ph_intents.specs.Settle.{approved_event, approved_intent, charg
 
 use crate::authentication::failed_intent;
 use crate::capturing::received_intent;
-use crate::versions::tell_version;
+use crate::versions::tell_all;
 use ph_base::{NoMemory, Ruling};
 use ph_charges::{approve, decline};
 use ph_items::{
@@ -138,7 +138,8 @@ fn settled_attempt(ruling: Ruling, attempt: Attempt) -> Attempt
     }
 }
 
-// Adds what a ruling makes of a payment intent: its charge, and a further version of it, which is announced.
+// Adds what a ruling makes of a payment intent: its charge, and a further version of it, which is announced, and
+// behind that the split.
 fn rule(
     alloc: Global,
     ruling: Ruling,
@@ -152,7 +153,7 @@ fn rule(
     let charge = add_charge(alloc, ruling, account, object, intent, batch)?;
     let settled = settled_intent(alloc, ruling, charge, intent)?;
     let sort = settled_event(ruling, intent.capture_method);
-    tell_version(account, object, settled, sort, batch)
+    tell_all(alloc, account, object, settled, sort, batch)
 }
 
 /// Adds what a ruling makes of an attempt and of its payment intent, and announces it: approved, the payment intent

@@ -1,17 +1,20 @@
 //! The update.
 ghost use Rattle.std.specs.Prelude.{◌≡◌, IfOk};
 ghost use Rattle.ph_facts.specs.Outcomes.{Gives};
-ghost use Rattle.ph_intents.specs.Update.{step_by, step_of, update_of, update_outcome, update_with, updated_intent};
+ghost use Rattle.ph_intents.specs.Update.{is_too_small, step_by, step_of, update_of, update_outcome, update_with, updated_intent};
 
 use crate::copies::{copy_method_or, copy_text_or};
+use crate::fees::is_wrong_fee;
 use crate::metadata::merged_metadata;
 use crate::refusals::{amount_too_small, invalid_value, no_such_intent, unexpected_state};
 use crate::statuses::{Step, next_status};
 use crate::versions::add_version;
 use ph_base::{Kind, NoMemory};
 use ph_calls::UpdateIntent;
+use ph_charges::fee_or;
 use ph_errors::Refusal;
 use ph_items::{Intent, IntentStatus};
+use ph_money::Amount;
 use ph_rows::{Batch, View, owned_named};
 use std::alloc::Global;
 
@@ -37,7 +40,10 @@ fn step_of(call: &UpdateIntent) -> Step
 {
     step_by(
         call.payment_method.is_some(),
-        call.amount.is_some() || call.currency.is_some() || call.transfer_group.is_some(),
+        call.amount.is_some()
+            || call.currency.is_some()
+            || call.application_fee_amount.is_some()
+            || call.transfer_group.is_some(),
     )
 }
 
@@ -65,6 +71,8 @@ fn updated_intent(
         cancellation_reason: intent.cancellation_reason,
         last_payment_error: intent.last_payment_error,
         latest_charge: intent.latest_charge,
+        application_fee_amount: fee_or(call.application_fee_amount, intent.application_fee_amount),
+        destination: intent.destination,
         description: copy_text_or(
             alloc,
             call.description.as_ref(),
@@ -79,18 +87,29 @@ fn updated_intent(
     })
 }
 
+// Whether the amount of a payment intent is below the minimum of its currency.
+fn is_too_small(intent: &Intent) -> bool
+    ensures { result ≡ is_too_small intent.now }
+{
+    intent.amount < intent.currency.minimum()
+}
+
 // Adds a version that results from an update.
 fn update_with(
     alloc: Global,
     account: u64,
+    fee: &Option<Amount>,
     object: u64,
     intent: Intent,
     batch: &mut Batch,
 ) -> Result<u64, Refusal>
-    ensures { (status : IntentStatus) → Gives (update_with account batch.old object status intent) batch.old result batch.new }
+    ensures { (status : IntentStatus) → Gives (update_with account fee.now batch.old object status intent) batch.old result batch.new }
 {
-    if intent.amount < intent.currency.minimum() {
+    if is_too_small(&intent) {
         return Err(amount_too_small(alloc));
+    }
+    if is_wrong_fee(account, intent.destination, fee, intent.amount) {
+        return Err(invalid_value(alloc, b"application_fee_amount"));
     }
     if intent.metadata.len() > MOST_KEYS {
         return Err(invalid_value(alloc, b"metadata"));
@@ -113,7 +132,8 @@ fn update_intent(
     match next_status(intent.status, step_of(call)) {
         Some(status) => {
             let updated = updated_intent(alloc, call, intent, status)?;
-            update_with(alloc, account, object, updated, batch)
+            let fee = &call.application_fee_amount;
+            update_with(alloc, account, fee, object, updated, batch)
         }
         None => Err(unexpected_state(alloc)),
     }
@@ -121,7 +141,8 @@ fn update_intent(
 
 /// Sets what the call names of the payment intent that the path names; metadata is merged key by key. It is refused
 /// where the account has no such payment intent, where its status doesn't allow it, for an amount that results below
-/// the minimum of the currency that results, and for more than 50 keys that result. The answer is its number.
+/// the minimum of the currency that results, for an application fee above that amount, or above 0 where the platform
+/// makes it without a destination, and for more than 50 keys that result. The answer is its number.
 pub fn update<V: View>(
     alloc: Global,
     view: &V,

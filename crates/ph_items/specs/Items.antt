@@ -19,6 +19,8 @@ intent_in (item.Attempt attempt) = None
 intent_in (item.Charge charge) = None
 intent_in (item.Refund refund) = None
 intent_in (item.Dispute dispute) = None
+intent_in (item.Transfer transfer) = None
+intent_in (item.Fee fee) = None
 intent_in (item.Txn txn) = None
 intent_in (item.Event event) = None
 
@@ -30,6 +32,8 @@ attempt_in (item.Attempt attempt) = Some attempt
 attempt_in (item.Charge charge) = None
 attempt_in (item.Refund refund) = None
 attempt_in (item.Dispute dispute) = None
+attempt_in (item.Transfer transfer) = None
+attempt_in (item.Fee fee) = None
 attempt_in (item.Txn txn) = None
 attempt_in (item.Event event) = None
 
@@ -41,6 +45,8 @@ charge_in (item.Attempt attempt) = None
 charge_in (item.Charge charge) = Some charge
 charge_in (item.Refund refund) = None
 charge_in (item.Dispute dispute) = None
+charge_in (item.Transfer transfer) = None
+charge_in (item.Fee fee) = None
 charge_in (item.Txn txn) = None
 charge_in (item.Event event) = None
 
@@ -61,6 +67,8 @@ refund_in (item.Attempt attempt) = None
 refund_in (item.Charge charge) = None
 refund_in (item.Refund refund) = Some refund
 refund_in (item.Dispute dispute) = None
+refund_in (item.Transfer transfer) = None
+refund_in (item.Fee fee) = None
 refund_in (item.Txn txn) = None
 refund_in (item.Event event) = None
 
@@ -72,6 +80,8 @@ dispute_in (item.Attempt attempt) = None
 dispute_in (item.Charge charge) = None
 dispute_in (item.Refund refund) = None
 dispute_in (item.Dispute dispute) = Some dispute
+dispute_in (item.Transfer transfer) = None
+dispute_in (item.Fee fee) = None
 dispute_in (item.Txn txn) = None
 dispute_in (item.Event event) = None
 
@@ -83,6 +93,8 @@ txn_in (item.Attempt attempt) = None
 txn_in (item.Charge charge) = None
 txn_in (item.Refund refund) = None
 txn_in (item.Dispute dispute) = None
+txn_in (item.Transfer transfer) = None
+txn_in (item.Fee fee) = None
 txn_in (item.Txn txn) = Some txn
 txn_in (item.Event event) = None
 

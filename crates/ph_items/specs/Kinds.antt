@@ -14,6 +14,8 @@ kind_of (item.Attempt attempt) = kind.Attempt
 kind_of (item.Charge charge) = charge_kind charge.sort
 kind_of (item.Refund refund) = kind.Refund
 kind_of (item.Dispute dispute) = kind.Dispute
+kind_of (item.Transfer transfer) = kind.Transfer
+kind_of (item.Fee fee) = kind.Fee
 kind_of (item.Txn txn) = kind.Txn
 kind_of (item.Event event) = kind.Event
 

@@ -58,7 +58,10 @@ charge_status_text charge_status.Failed = codes "failed"
 -- the word of a transaction's type
 abbrev pub txn_type_text : TxnType → List ℕ
 txn_type_text txn_type.Charge = codes "charge"
+txn_type_text txn_type.Payment = codes "payment"
 txn_type_text txn_type.Refund = codes "refund"
+txn_type_text txn_type.Transfer = codes "transfer"
+txn_type_text txn_type.ApplicationFee = codes "application_fee"
 txn_type_text txn_type.Adjustment = codes "adjustment"
 
 -- the word of a reason for a refund

@@ -81,11 +81,15 @@ pub struct Capture {
     pub transaction: u64,
     /// The moment from which what was captured counts as available, in seconds since 1970.
     pub available_on: u64,
+    /// The number of the transfer to the charge's destination, where it has one.
+    pub transfer: Option<u64>,
+    /// The number of the application fee that was taken of it, where one was.
+    pub fee: Option<u64>,
 }
 
 /// A version of a charge: what the acquirer ruled on one confirmation of a payment intent, or what a transfer gave.
-/// Amounts are in minor units of its currency. Payment method, description, metadata and transfer group of a card
-/// charge are those that the payment intent had when the charge was made; a payment has none.
+/// Amounts are in minor units of its currency. Payment method, application fee, destination, description, metadata and transfer
+/// group of a card charge are those that the payment intent had when the charge was made; a payment has none.
 #[derive(Drop, Debug)]
 pub struct Charge {
     pub sort: ChargeSort,
@@ -96,6 +100,10 @@ pub struct Charge {
     pub currency: Currency,
     pub status: ChargeStatus,
     pub payment_method: Option<PaymentMethod>,
+    /// What the platform takes of it for itself: no more than is captured. A capture may name another.
+    pub application_fee_amount: Option<Amount>,
+    /// The number of the connected account to which what is captured goes.
+    pub destination: Option<u64>,
     /// Its capture; none where it hasn't been captured.
     pub capture: Option<Capture>,
     /// The number of the dispute that its customer opened, which the charge keeps when it is closed.
@@ -120,6 +128,8 @@ impl Charge {
             currency: self.currency,
             status: self.status,
             payment_method: copy_method(alloc, self.payment_method.as_ref())?,
+            application_fee_amount: self.application_fee_amount,
+            destination: self.destination,
             capture: self.capture,
             dispute: self.dispute,
             description: copy_text(alloc, self.description.as_ref())?,

@@ -115,6 +115,10 @@ pub struct Intent {
     pub last_payment_error: Option<PaymentError>,
     /// The number of the charge of its last confirmation that the acquirer approved or declined.
     pub latest_charge: Option<u64>,
+    /// What the platform takes of it for itself: no more than is captured.
+    pub application_fee_amount: Option<Amount>,
+    /// The number of the connected account to which what is captured goes, as `transfer_data` names it.
+    pub destination: Option<u64>,
     pub description: Option<Bytes>,
     pub metadata: Metadata,
     pub transfer_group: Option<Bytes>,
@@ -138,6 +142,8 @@ impl Intent {
             cancellation_reason: self.cancellation_reason,
             last_payment_error: self.last_payment_error,
             latest_charge: self.latest_charge,
+            application_fee_amount: self.application_fee_amount,
+            destination: self.destination,
             description: copy_text(alloc, self.description.as_ref())?,
             metadata: self.metadata.copy(alloc)?,
             transfer_group: copy_text(alloc, self.transfer_group.as_ref())?,

@@ -7,9 +7,11 @@ use crate::attempts::Attempt;
 use crate::charges::{Charge, ChargeSort};
 use crate::disputes::Dispute;
 use crate::events::Event;
+use crate::fees::Fee;
 use crate::intents::Intent;
 use crate::refunds::Refund;
 use crate::transactions::Txn;
+use crate::transfers::Transfer;
 use ph_base::Kind;
 
 /// The fields of a version of an object. The number, the account and the times are the row's.
@@ -21,6 +23,8 @@ pub enum Item {
     Charge(Charge),
     Refund(Refund),
     Dispute(Dispute),
+    Transfer(Transfer),
+    Fee(Fee),
     Txn(Txn),
     Event(Event),
 }
@@ -42,6 +46,8 @@ impl Item {
             Item::Charge(charge) => charge.sort.kind(),
             Item::Refund(_) => Kind::Refund,
             Item::Dispute(_) => Kind::Dispute,
+            Item::Transfer(_) => Kind::Transfer,
+            Item::Fee(_) => Kind::Fee,
             Item::Txn(_) => Kind::Txn,
             Item::Event(_) => Kind::Event,
         }
@@ -58,6 +64,8 @@ impl Item {
             | Item::Charge(_)
             | Item::Refund(_)
             | Item::Dispute(_)
+            | Item::Transfer(_)
+            | Item::Fee(_)
             | Item::Txn(_)
             | Item::Event(_) => None,
         }
@@ -74,6 +82,8 @@ impl Item {
             | Item::Charge(_)
             | Item::Refund(_)
             | Item::Dispute(_)
+            | Item::Transfer(_)
+            | Item::Fee(_)
             | Item::Txn(_)
             | Item::Event(_) => None,
         }
@@ -90,6 +100,8 @@ impl Item {
             | Item::Attempt(_)
             | Item::Refund(_)
             | Item::Dispute(_)
+            | Item::Transfer(_)
+            | Item::Fee(_)
             | Item::Txn(_)
             | Item::Event(_) => None,
         }
@@ -117,6 +129,8 @@ impl Item {
             | Item::Attempt(_)
             | Item::Charge(_)
             | Item::Dispute(_)
+            | Item::Transfer(_)
+            | Item::Fee(_)
             | Item::Txn(_)
             | Item::Event(_) => None,
         }
@@ -133,6 +147,8 @@ impl Item {
             | Item::Attempt(_)
             | Item::Charge(_)
             | Item::Refund(_)
+            | Item::Transfer(_)
+            | Item::Fee(_)
             | Item::Txn(_)
             | Item::Event(_) => None,
         }
@@ -150,6 +166,8 @@ impl Item {
             | Item::Charge(_)
             | Item::Refund(_)
             | Item::Dispute(_)
+            | Item::Transfer(_)
+            | Item::Fee(_)
             | Item::Event(_) => None,
         }
     }

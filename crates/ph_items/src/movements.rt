@@ -46,6 +46,8 @@ impl Item {
             | Item::Charge(_)
             | Item::Refund(_)
             | Item::Dispute(_)
+            | Item::Transfer(_)
+            | Item::Fee(_)
             | Item::Event(_) => None,
         }
     }

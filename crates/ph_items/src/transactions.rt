@@ -7,8 +7,15 @@ use ph_money::{Currency, SignedAmount};
 /// What a transaction is made for, as Stripe's `type` names it.
 #[derive(Clone, Copy, Debug, PartialEq, Eq)]
 pub enum TxnType {
+    /// What is captured of a card charge.
     Charge,
+    /// What a transfer gives to the account that it goes to.
+    Payment,
     Refund,
+    /// What a transfer takes from the platform.
+    Transfer,
+    /// What the platform takes of a charge for itself.
+    ApplicationFee,
     /// What a dispute takes, and gives back where it is won.
     Adjustment,
 }
@@ -23,7 +30,10 @@ impl TxnType {
     {
         match self {
             TxnType::Charge => b"charge",
+            TxnType::Payment => b"payment",
             TxnType::Refund => b"refund",
+            TxnType::Transfer => b"transfer",
+            TxnType::ApplicationFee => b"application_fee",
             TxnType::Adjustment => b"adjustment",
         }
     }
@@ -33,8 +43,11 @@ impl TxnType {
 #[derive(Clone, Copy, Debug, PartialEq, Eq)]
 pub enum TxnSource {
     Charge(u64),
+    Payment(u64),
     Refund(u64),
     Dispute(u64),
+    Transfer(u64),
+    Fee(u64),
 }
 
 impl TxnSource {
@@ -47,8 +60,11 @@ impl TxnSource {
     {
         match self {
             TxnSource::Charge(_) => Kind::Charge,
+            TxnSource::Payment(_) => Kind::Payment,
             TxnSource::Refund(_) => Kind::Refund,
             TxnSource::Dispute(_) => Kind::Dispute,
+            TxnSource::Transfer(_) => Kind::Transfer,
+            TxnSource::Fee(_) => Kind::Fee,
         }
     }
 
@@ -57,9 +73,12 @@ impl TxnSource {
         ensures { result ≡ source_number self }
     {
         match self {
-            TxnSource::Charge(number) | TxnSource::Refund(number) | TxnSource::Dispute(number) => {
-                number
-            }
+            TxnSource::Charge(number)
+            | TxnSource::Payment(number)
+            | TxnSource::Refund(number)
+            | TxnSource::Dispute(number)
+            | TxnSource::Transfer(number)
+            | TxnSource::Fee(number) => number,
         }
     }
 }

@@ -35,7 +35,8 @@ impl Item {
             }
             Item::Refund(refund) => plus_pairs(sum, refund.metadata.pairs()),
             Item::Dispute(dispute) => plus_text(sum, dispute.evidence.as_ref()),
-            Item::Attempt(_) | Item::Txn(_) => Some(sum),
+            Item::Transfer(transfer) => plus_text(sum, transfer.transfer_group.as_ref()),
+            Item::Attempt(_) | Item::Fee(_) | Item::Txn(_) => Some(sum),
             Item::Event(event) => plus_text(sum, event.key.as_ref()),
         }
     }

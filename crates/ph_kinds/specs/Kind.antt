@@ -14,6 +14,7 @@ pub data Kind : Type 0 where
   Metadata : Kind
   Events : Kind
   Address : Kind
+  AccountType : Kind
   CaptureMethod : Kind
   CancellationReason : Kind
   RefundReason : Kind

@@ -2,6 +2,7 @@
 use Rattle.std.specs.Prelude.{ℕ, nat_le, Bool, if◌then◌else◌, List, length, Option, Result, Ok, Err, ok_or}
 use Rattle.std.specs.Str.{chars}
 use Rattle.ph_money.specs.declared.currencies.Currency.{Currency}
+use Rattle.ph_items.specs.declared.accounts.AccountType.{AccountType}
 use Rattle.ph_items.specs.declared.intents.CancellationReason.{CancellationReason}
 use Rattle.ph_items.specs.declared.intents.CaptureMethod.{CaptureMethod}
 use Rattle.ph_items.specs.declared.payment_methods.PaymentMethod.{PaymentMethod}
@@ -19,7 +20,7 @@ use Rattle.ph_kinds.specs.Events.{events_in}
 use Rattle.ph_kinds.specs.Metadata.{cleared_in, metadata_in}
 use Rattle.ph_kinds.specs.Methods.{payment_method_in}
 use Rattle.ph_kinds.specs.Numbers.{amount_in, whole_in}
-use Rattle.ph_kinds.specs.Words.{authentication_in, cancellation_reason_in, capture_method_in, currency_in, refund_reason_in, truth_in}
+use Rattle.ph_kinds.specs.Words.{account_type_in, authentication_in, cancellation_reason_in, capture_method_in, currency_in, refund_reason_in, truth_in}
 
 -- what a value of a kind is
 abbrev pub Value : Kind → Type 0
@@ -33,6 +34,7 @@ Value kind.Method = PaymentMethod
 Value kind.Metadata = Meta
 Value kind.Events = List (List ℕ)
 Value kind.Address = Address
+Value kind.AccountType = AccountType
 Value kind.CaptureMethod = CaptureMethod
 Value kind.CancellationReason = CancellationReason
 Value kind.RefundReason = RefundReason
@@ -58,6 +60,7 @@ text_value kind.Method text = payment_method_in text
 text_value kind.Metadata text = cleared_in text
 text_value kind.Events text = Err InvalidValue
 text_value kind.Address text = address_in text
+text_value kind.AccountType text = account_type_in text
 text_value kind.CaptureMethod text = capture_method_in text
 text_value kind.CancellationReason text = cancellation_reason_in text
 text_value kind.RefundReason text = refund_reason_in text
@@ -75,6 +78,7 @@ map_value kind.Method entries = Err InvalidValue
 map_value kind.Metadata entries = metadata_in entries
 map_value kind.Events entries = events_in entries
 map_value kind.Address entries = Err InvalidValue
+map_value kind.AccountType entries = Err InvalidValue
 map_value kind.CaptureMethod entries = Err InvalidValue
 map_value kind.CancellationReason entries = Err InvalidValue
 map_value kind.RefundReason entries = Err InvalidValue

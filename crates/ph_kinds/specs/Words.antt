@@ -3,11 +3,13 @@ use Rattle.std.specs.Prelude.{ℕ, Bool, true, false, if◌then◌else◌, List,
 use Rattle.std.specs.Str.{str_eq_ignore_ascii_case}
 use Rattle.ph_money.specs.declared.currencies.Currency.{Currency}
 use Rattle.ph_money.specs.Currencies.{currency_of}
-use Rattle.ph_items.specs.Words.{cancellation_reason_text, capture_method_text, refund_reason_text}
+use Rattle.ph_items.specs.Words.{account_type_text, cancellation_reason_text, capture_method_text, refund_reason_text}
 use Rattle.ph_kinds.specs.declared.authentication.Authentication.{Authentication}
 use Rattle.ph_kinds.specs.declared.authentication.Authentication.TheVariants.{Succeeded, Failed}
 use Rattle.ph_kinds.specs.declared.flaw.Flaw.{Flaw}
 use Rattle.ph_kinds.specs.declared.flaw.Flaw.TheVariants.{InvalidValue}
+use Rattle.ph_items.specs.declared.accounts.AccountType.{AccountType}
+use Rattle.ph_items.specs.declared.accounts.AccountType.TheVariants.{Standard, Express, Custom}
 use Rattle.ph_items.specs.declared.intents.CancellationReason.{CancellationReason}
 use Rattle.ph_items.specs.declared.intents.CancellationReason.TheVariants.{Duplicate, Fraudulent, RequestedByCustomer, Abandoned}
 use Rattle.ph_items.specs.declared.intents.CaptureMethod.{CaptureMethod}
@@ -24,6 +26,14 @@ abbrev pub truth_in : List ℕ → Result Bool Flaw
 truth_in text =
     if str_eq_ignore_ascii_case text (codes "true") then Ok true
     else (if str_eq_ignore_ascii_case text (codes "false") then Ok false else Err InvalidValue)
+
+-- every type of account
+abbrev pub account_types : List AccountType
+account_types = Standard ∷ Express ∷ Custom ∷ []
+
+-- a type of account: its word
+abbrev pub account_type_in : List ℕ → Result AccountType Flaw
+account_type_in text = ok_or (find (λ type. bytes_eq text (account_type_text type)) account_types) InvalidValue
 
 -- every capture method
 abbrev pub capture_methods : List CaptureMethod

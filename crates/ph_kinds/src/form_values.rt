@@ -15,13 +15,13 @@ use crate::metadata::{Meta, is_metadata, pairs_of};
 use crate::methods::read_method;
 use crate::numbers::{read_amount, read_whole};
 use crate::words::{
-    read_authentication, read_cancellation_reason, read_capture_method, read_currency,
-    read_refund_reason, read_truth,
+    read_account_type, read_authentication, read_cancellation_reason, read_capture_method,
+    read_currency, read_refund_reason, read_truth,
 };
 use ph_address::{Address, read_address};
 use ph_base::Bytes;
 use ph_form::Form;
-use ph_items::{CancellationReason, CaptureMethod, PaymentMethod, RefundReason};
+use ph_items::{AccountType, CancellationReason, CaptureMethod, PaymentMethod, RefundReason};
 use ph_money::{Amount, Currency};
 use std::alloc::Global;
 
@@ -79,6 +79,16 @@ pub fn truth_at(form: &Form, name: &[u8]) -> Result<Option<bool>, Flaw>
 {
     match only_text(form, name, Flaw::InvalidValue)? {
         Some(text) => Ok(Some(read_truth(text)?)),
+        None => Ok(None),
+    }
+}
+
+/// The type of account under a name.
+pub fn account_type_at(form: &Form, name: &[u8]) -> Result<Option<AccountType>, Flaw>
+    ensures { result ≡ value_at kind.AccountType name.now form.now }
+{
+    match only_text(form, name, Flaw::InvalidValue)? {
+        Some(text) => Ok(Some(read_account_type(text)?)),
         None => Ok(None),
     }
 }

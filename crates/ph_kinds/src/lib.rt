@@ -17,9 +17,9 @@ pub use authentication::Authentication;
 pub use characters::character_count;
 pub use flaw::Flaw;
 pub use form_values::{
-    address_at, amount_at, authentication_at, cancellation_reason_at, capture_method_at,
-    currency_at, events_at, id_at, metadata_at, number_at, payment_method_at, refund_reason_at,
-    text_at, truth_at,
+    account_type_at, address_at, amount_at, authentication_at, cancellation_reason_at,
+    capture_method_at, currency_at, events_at, id_at, metadata_at, number_at, payment_method_at,
+    refund_reason_at, text_at, truth_at,
 };
 pub use kept::first_metadata;
 pub use lists::{Pairs, Texts};
@@ -27,6 +27,6 @@ pub use metadata::Meta;
 pub use methods::read_method;
 pub use numbers::{read_amount, read_whole};
 pub use words::{
-    read_authentication, read_cancellation_reason, read_capture_method, read_currency,
-    read_refund_reason, read_truth,
+    read_account_type, read_authentication, read_cancellation_reason, read_capture_method,
+    read_currency, read_refund_reason, read_truth,
 };

@@ -1,11 +1,17 @@
 //! Words that parameters take.
 ghost use Rattle.std.specs.Prelude.{◌≡◌};
-ghost use Rattle.ph_kinds.specs.Words.{authentication_in, cancellation_reason_in, capture_method_in, currency_in, refund_reason_in, truth_in};
+ghost use Rattle.ph_kinds.specs.Words.{account_type_in, authentication_in, cancellation_reason_in, capture_method_in, currency_in, refund_reason_in, truth_in};
 
 use crate::authentication::Authentication;
 use crate::flaw::Flaw;
-use ph_items::{CancellationReason, CaptureMethod, RefundReason};
+use ph_items::{AccountType, CancellationReason, CaptureMethod, RefundReason};
 use ph_money::Currency;
+
+const ACCOUNT_TYPES: [AccountType; 3] = [
+    AccountType::Standard,
+    AccountType::Express,
+    AccountType::Custom,
+];
 
 const CAPTURE_METHODS: [CaptureMethod; 3] = [
     CaptureMethod::Automatic,
@@ -44,6 +50,17 @@ pub fn read_truth(text: &[u8]) -> Result<bool, Flaw>
     } else {
         Err(Flaw::InvalidValue)
     }
+}
+
+/// The type of account whose word a text is.
+pub fn read_account_type(text: &[u8]) -> Result<AccountType, Flaw>
+    ensures { result ≡ account_type_in text.now }
+{
+    ACCOUNT_TYPES
+        .iter()
+        .copied()
+        .find(|sort| text == sort.text())
+        .ok_or(Flaw::InvalidValue)
 }
 
 /// The capture method whose word a text is.

@@ -40,6 +40,8 @@ moves_nothing (item.Attempt attempt) e = refl
 moves_nothing (item.Charge charge) e = refl
 moves_nothing (item.Refund refund) e = refl
 moves_nothing (item.Dispute dispute) e = refl
+moves_nothing (item.Transfer transfer) e = refl
+moves_nothing (item.Fee fee) e = refl
 moves_nothing (item.Txn txn) e = absurd (cc)
 moves_nothing (item.Event event) e = refl
 

@@ -134,6 +134,8 @@ fn posting(row: &Row) -> Row
         | Item::Charge(_)
         | Item::Refund(_)
         | Item::Dispute(_)
+        | Item::Transfer(_)
+        | Item::Fee(_)
         | Item::Event(_) => unreachable!(),
     }
 }

@@ -42,6 +42,8 @@ latest_found state text row sound e = at (object_named state.rows kind.Intent te
     of_item paid stands (item.Charge charge) is e = absurd (cc)
     of_item paid stands (item.Refund refund) is e = absurd (cc)
     of_item paid stands (item.Dispute dispute) is e = absurd (cc)
+    of_item paid stands (item.Transfer transfer) is e = absurd (cc)
+    of_item paid stands (item.Fee fee) is e = absurd (cc)
     of_item paid stands (item.Txn txn) is e = absurd (cc)
     of_item paid stands (item.Event event) is e = absurd (cc)
 

@@ -83,6 +83,13 @@ impl Batch {
         self.began + self.rows.len() as u64
     }
 
+    /// Its object rows so far.
+    pub fn rows(&self) -> &[Row]
+        ensures { result.now ≡ self.now.rows }
+    {
+        self.rows.as_slice()
+    }
+
     /// Its last row of an object. None exactly where it has none.
     pub fn latest(&self, object: u64) -> Option<&Row>
         ensures { option_copied result ≡ latest_of object self.now.rows }

@@ -13,9 +13,9 @@ use Rattle.ph_errors.specs.declared.kinds.Code.{Code}
 use Rattle.ph_errors.specs.declared.kinds.Code.TheVariants as code
 use Rattle.ph_errors.specs.Names.{code_name}
 use Rattle.ph_json.specs.declared.doc.Doc.{Doc}
-use Rattle.ph_json.specs.declared.doc.Doc.TheVariants.{Null, Truth, Number, Text, Object}
+use Rattle.ph_json.specs.declared.doc.Doc.TheVariants.{Truth, Number, Text, Object}
 use Rattle.ph_json.specs.Values.{text_or_null}
-use Rattle.ph_views.specs.Values.{moment_doc, printed_id, id_or_null, metadata_doc}
+use Rattle.ph_views.specs.Values.{amount_or_null, moment_doc, printed_id, id_or_null, metadata_doc}
 
 -- whether a charge paid: it did where it didn't fail
 abbrev pub is_paid : ChargeStatus → Bool
@@ -32,18 +32,27 @@ abbrev pub transaction_of : Option Capture → Option ℕ
 transaction_of None = None
 transaction_of (Some capture) = Some capture.transaction
 
+-- the transfer, and the application fee, of a capture, where there is one
+abbrev pub transfer_of : Option Capture → Option ℕ
+transfer_of None = None
+transfer_of (Some capture) = capture.transfer
+
+abbrev pub fee_of : Option Capture → Option ℕ
+fee_of None = None
+fee_of (Some capture) = capture.fee
+
 -- whether all that was captured is refunded
 abbrev pub is_refunded : Charge → Bool
 is_refunded charge = charge.amount_refunded == charge.amount_captured && nat_lt 0 charge.amount_captured
 
--- how much; no application fee is taken yet
+-- how much
 unfoldable pub charge_amount_members : Charge → List (List ℕ × Doc)
 charge_amount_members charge =
     (codes "amount", Number (pos charge.amount))
     ∷ (codes "amount_captured", Number (pos charge.amount_captured))
     ∷ (codes "amount_refunded", Number (pos charge.amount_refunded))
-    ∷ (codes "application_fee", Null)
-    ∷ (codes "application_fee_amount", Null)
+    ∷ (codes "application_fee", id_or_null kind.Fee (fee_of charge.capture))
+    ∷ (codes "application_fee_amount", amount_or_null charge.application_fee_amount)
     ∷ (codes "currency", Text (code_of charge.currency))
     ∷ []
 
@@ -70,13 +79,13 @@ charge_progress_members charge =
     ∷ (codes "status", Text (charge_status_text charge.status))
     ∷ []
 
--- what it pays, and how; no transfers are made yet
+-- what it pays, and how, and where that goes
 unfoldable pub charge_payment_members : Charge → List (List ℕ × Doc)
 charge_payment_members charge =
     (codes "payment_intent", id_or_null kind.Intent (paid_intent charge.sort))
     ∷ (codes "payment_method", text_or_null (method_text charge.payment_method))
     ∷ (codes "source_transfer", id_or_null kind.Transfer (source_transfer charge.sort))
-    ∷ (codes "transfer", Null)
+    ∷ (codes "transfer", id_or_null kind.Transfer (transfer_of charge.capture))
     ∷ (codes "transfer_group", text_or_null charge.transfer_group)
     ∷ []
 

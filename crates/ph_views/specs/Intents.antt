@@ -14,7 +14,7 @@ use Rattle.ph_json.specs.declared.doc.Doc.TheVariants.{Null, Truth, Number, Text
 use Rattle.ph_json.specs.Values.{text_or_null}
 use Rattle.ph_errors.specs.Table.{error_of, CardDeclined, NotAuthenticated}
 use Rattle.ph_errors.specs.Body.{object_of}
-use Rattle.ph_views.specs.Values.{moment_doc, printed_id, id_or_null, metadata_doc}
+use Rattle.ph_views.specs.Values.{amount_or_null, moment_doc, printed_id, id_or_null, metadata_doc}
 
 -- why the last confirmation didn't pay: the error as its reply shows it, without the payment intent; or null
 abbrev pub last_error_doc : Option PaymentError → Doc
@@ -40,15 +40,20 @@ next_action_doc status.Canceled = Null
 abbrev pub client_secret_of : ℕ → List ℕ
 client_secret_of object = printed_id kind.Intent object ++ codes "_secret_payhost"
 
+-- where what is captured goes: to a destination, or null
+abbrev pub transfer_data_doc : Option ℕ → Doc
+transfer_data_doc None = Null
+transfer_data_doc (Some destination) = Object ((codes "destination", Text (printed_id kind.Account destination)) ∷ [])
+
 -- how much, and for whom
 unfoldable pub amount_members : Intent → List (List ℕ × Doc)
 amount_members intent =
     (codes "amount", Number (pos intent.amount))
     ∷ (codes "amount_capturable", Number (pos intent.amount_capturable))
     ∷ (codes "amount_received", Number (pos intent.amount_received))
-    ∷ (codes "application_fee_amount", Null)
+    ∷ (codes "application_fee_amount", amount_or_null intent.application_fee_amount)
     ∷ (codes "currency", Text (code_of intent.currency))
-    ∷ (codes "transfer_data", Null)
+    ∷ (codes "transfer_data", transfer_data_doc intent.destination)
     ∷ (codes "transfer_group", text_or_null intent.transfer_group)
     ∷ []
 

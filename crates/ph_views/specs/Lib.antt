@@ -1,3 +1,5 @@
+pub mod Fees
+pub mod Transfers
 pub mod Accounts
 pub mod Balances
 pub mod Charges

@@ -1,5 +1,5 @@
 -- The values that the documents of objects share.
-use Rattle.std.specs.Prelude.{ℕ, ◌-◌, ◌^◌, min, pos, List, map, ◌++◌, Option, None, Some}
+use Rattle.std.specs.Prelude.{ℕ, ◌-◌, ◌^◌, min, pos, List, [], map, ◌++◌, Option, None, Some}
 use Rattle.ph_base.specs.declared.ids.Kind.{Kind}
 use Rattle.ph_base.specs.Ids.{prefix_of}
 use Rattle.ph_base.specs.Numbers.{padded}
@@ -23,3 +23,12 @@ id_or_null kind (Some number) = Text (printed_id kind number)
 -- metadata: an object with a text for each name
 abbrev pub metadata_doc : List MetadataPair → Doc
 metadata_doc pairs = Object (map (λ pair. (pair.key, Text pair.value)) pairs)
+
+-- an amount of money in minor units, or null where there is none
+abbrev pub amount_or_null : Option ℕ → Doc
+amount_or_null None = Null
+amount_or_null (Some amount) = Number (pos amount)
+
+-- an object without members
+abbrev pub empty_doc : Doc
+empty_doc = Object []

@@ -1,10 +1,12 @@
 //! Charges.
 ghost use Rattle.std.specs.Prelude.{◌≡◌, [], ◌∷◌, ◌++◌, IfOk, OnOk, OnErr, option_map, codes};
-ghost use Rattle.ph_views.specs.Charges.{charge_doc, charge_amount_members, charge_name_members, charge_progress_members, charge_payment_members, failure_code, is_paid, is_refunded, transaction_of};
+ghost use Rattle.ph_views.specs.Charges.{charge_doc, charge_amount_members, charge_name_members, charge_progress_members, charge_payment_members, failure_code, fee_of, is_paid, is_refunded, transaction_of, transfer_of};
 ghost use Rattle.ph_errors.specs.Names.{code_name};
 ghost use Rattle.ph_json.specs.Values.{text_or_null};
 
-use crate::values::{put_amount, put_id, put_id_or_null, put_metadata, put_method, put_moment};
+use crate::values::{
+    put_amount, put_amount_or_null, put_id, put_id_or_null, put_metadata, put_method, put_moment,
+};
 use ph_base::{Kind, NoMemory};
 use ph_errors::Code;
 use ph_items::{Capture, Charge, ChargeStatus};
@@ -28,7 +30,7 @@ pub fn charge_doc(
     Ok(members.done())
 }
 
-// How much. No application fee is taken yet.
+// How much.
 #[tactic(auto, unfolding(crate::specs::Charges::charge_amount_members))]
 fn amounts(alloc: Global, charge: &Charge) -> Result<Members, NoMemory>
     ensures { IfOk result (λ members. members ≡ charge_amount_members charge.now) }
@@ -37,8 +39,17 @@ fn amounts(alloc: Global, charge: &Charge) -> Result<Members, NoMemory>
     put_amount(&mut members, "amount", charge.amount)?;
     put_amount(&mut members, "amount_captured", charge.amount_captured)?;
     put_amount(&mut members, "amount_refunded", charge.amount_refunded)?;
-    members.null("application_fee")?;
-    members.null("application_fee_amount")?;
+    put_id_or_null(
+        &mut members,
+        "application_fee",
+        Kind::Fee,
+        fee_of(charge.capture),
+    )?;
+    put_amount_or_null(
+        &mut members,
+        "application_fee_amount",
+        charge.application_fee_amount,
+    )?;
     members.text("currency", charge.currency.code())?;
     Ok(members)
 }
@@ -79,7 +90,7 @@ fn progress(alloc: Global, charge: &Charge) -> Result<Members, NoMemory>
     Ok(members)
 }
 
-// What it pays, and how. No transfers are made yet.
+// What it pays, and how, and where that goes.
 #[tactic(auto, unfolding(crate::specs::Charges::charge_payment_members))]
 fn payment(alloc: Global, charge: &Charge) -> Result<Members, NoMemory>
     ensures { IfOk result (λ members. members ≡ charge_payment_members charge.now) }
@@ -98,7 +109,12 @@ fn payment(alloc: Global, charge: &Charge) -> Result<Members, NoMemory>
         Kind::Transfer,
         charge.sort.transfer(),
     )?;
-    members.null("transfer")?;
+    put_id_or_null(
+        &mut members,
+        "transfer",
+        Kind::Transfer,
+        transfer_of(charge.capture),
+    )?;
     members.text_or_null("transfer_group", &charge.transfer_group)?;
     Ok(members)
 }
@@ -109,6 +125,26 @@ fn transaction_of(capture: Option<Capture>) -> Option<u64>
 {
     match capture {
         Some(capture) => Some(capture.transaction),
+        None => None,
+    }
+}
+
+// The transfer of a capture, where there is one.
+fn transfer_of(capture: Option<Capture>) -> Option<u64>
+    ensures { result ≡ transfer_of capture }
+{
+    match capture {
+        Some(capture) => capture.transfer,
+        None => None,
+    }
+}
+
+// The application fee of a capture, where there is one.
+fn fee_of(capture: Option<Capture>) -> Option<u64>
+    ensures { result ≡ fee_of capture }
+{
+    match capture {
+        Some(capture) => capture.fee,
         None => None,
     }
 }

@@ -1,11 +1,12 @@
 //! Payment intents.
-ghost use Rattle.std.specs.Prelude.{◌≡◌, [], ◌∷◌, ◌++◌, IfOk, OnOk, OnErr, option_map, codes};
+ghost use Rattle.std.specs.Prelude.{◌≡◌, [], ◌∷◌, ◌++◌, Some, IfOk, OnOk, OnErr, option_map, codes};
 ghost use Rattle.ph_items.specs.Words.{cancellation_reason_text};
 ghost use Rattle.ph_json.specs.Values.{text_or_null};
-ghost use Rattle.ph_views.specs.Intents.{intent_doc, amount_members, name_members, progress_members, last_error_doc, next_action_doc, authenticate_doc, client_secret_of};
+ghost use Rattle.ph_views.specs.Intents.{intent_doc, amount_members, name_members, progress_members, last_error_doc, next_action_doc, authenticate_doc, client_secret_of, transfer_data_doc};
 
 use crate::values::{
-    printed_id, put_amount, put_id, put_id_or_null, put_metadata, put_method, put_moment,
+    printed_id, put_amount, put_amount_or_null, put_id, put_id_or_null, put_metadata, put_method,
+    put_moment,
 };
 use ph_base::{Bytes, Kind, NoMemory};
 use ph_errors::{ApiError, error_doc};
@@ -38,11 +39,48 @@ fn amounts(alloc: Global, intent: &Intent) -> Result<Members, NoMemory>
     put_amount(&mut members, "amount", intent.amount)?;
     put_amount(&mut members, "amount_capturable", intent.amount_capturable)?;
     put_amount(&mut members, "amount_received", intent.amount_received)?;
-    members.null("application_fee_amount")?;
+    put_amount_or_null(
+        &mut members,
+        "application_fee_amount",
+        intent.application_fee_amount,
+    )?;
     members.text("currency", intent.currency.code())?;
-    members.null("transfer_data")?;
+    put_transfer_data(alloc, &mut members, "transfer_data", intent.destination)?;
     members.text_or_null("transfer_group", &intent.transfer_group)?;
     Ok(members)
+}
+
+// Puts where what is captured goes, or null.
+fn put_transfer_data(
+    alloc: Global,
+    members: &mut Members,
+    key: &str,
+    destination: Option<u64>,
+) -> Result<(), NoMemory>
+    ensures ok { OnOk result (members.new ≡ members.old ++ (key.now, transfer_data_doc destination) ∷ []) }
+    ensures err { OnErr result (members.new ≡ members.old) }
+{
+    let data = transfer_data(alloc, destination)?;
+    members.put(key, data)
+}
+
+// Where what is captured goes, or null.
+fn transfer_data(alloc: Global, destination: Option<u64>) -> Result<Doc, NoMemory>
+    ensures { IfOk result (λ doc. doc ≡ transfer_data_doc destination) }
+{
+    match destination {
+        None => Ok(Doc::Null),
+        Some(destination) => to_destination(alloc, destination),
+    }
+}
+
+// What is captured goes to a destination.
+fn to_destination(alloc: Global, destination: u64) -> Result<Doc, NoMemory>
+    ensures { IfOk result (λ doc. doc ≡ transfer_data_doc (Some destination)) }
+{
+    let mut members = Members::new(alloc);
+    put_id(&mut members, "destination", Kind::Account, destination)?;
+    Ok(members.done())
 }
 
 // Which one, made when, and what its owner says of it.

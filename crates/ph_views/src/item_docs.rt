@@ -6,10 +6,12 @@ use crate::accounts::account_doc;
 use crate::charges::charge_doc;
 use crate::disputes::dispute_doc;
 use crate::events::event_doc;
+use crate::fees::fee_doc;
 use crate::intents::intent_doc;
 use crate::refunds::refund_doc;
 use crate::subjects::{created, version_before};
 use crate::transactions::txn_doc;
+use crate::transfers::transfer_doc;
 use ph_base::{Bytes, NoMemory};
 use ph_items::Item;
 use ph_json::{Doc, text};
@@ -30,7 +32,9 @@ pub fn item_doc<V: View>(alloc: Global, view: &V, row: &Row) -> Result<Doc, NoMe
         | Item::Attempt(_)
         | Item::Charge(_)
         | Item::Refund(_)
-        | Item::Dispute(_) => version(alloc, created(view, row), row.object, &row.item),
+        | Item::Dispute(_)
+        | Item::Transfer(_)
+        | Item::Fee(_) => version(alloc, created(view, row), row.object, &row.item),
         Item::Txn(txn) => txn_doc(alloc, view.time(), created(view, row), row.object, txn),
         Item::Event(event) => {
             let subject = subject(alloc, view, row.place, event.object)?;
@@ -75,6 +79,8 @@ fn version(alloc: Global, created: u64, object: u64, item: &Item) -> Result<Doc,
         Item::Charge(charge) => charge_doc(alloc, created, object, charge),
         Item::Refund(refund) => refund_doc(alloc, created, object, refund),
         Item::Dispute(dispute) => dispute_doc(alloc, created, object, dispute),
+        Item::Transfer(transfer) => transfer_doc(alloc, created, object, transfer),
+        Item::Fee(fee) => fee_doc(alloc, created, object, fee),
         Item::Attempt(_) | Item::Txn(_) | Item::Event(_) => Ok(Doc::Null),
     }
 }

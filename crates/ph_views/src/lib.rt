@@ -7,11 +7,13 @@ mod charges;
 mod clocks;
 mod disputes;
 mod events;
+mod fees;
 mod intents;
 mod item_docs;
 mod refunds;
 mod subjects;
 mod transactions;
+mod transfers;
 mod values;
 
 pub use balances::{balance_doc, has_txns};

@@ -5,6 +5,7 @@ use ph_base::{Bytes, NoMemory};
 use ph_calls::{Call, read_call};
 use ph_errors::Refusal;
 use ph_http::Raw;
+use ph_items::PLATFORM;
 use std::alloc::Global;
 use std::process::Abort;
 
@@ -24,7 +25,7 @@ fn raw(alloc: Global, method: &[u8], path: &[u8], body: Bytes) -> Result<Raw, No
 // A request's refusal, where it is refused.
 fn refusal(rt: &impl Abort, alloc: Global, request: Result<Raw, NoMemory>) -> Option<Refusal> {
     let request = request.expect(rt, "a request");
-    read_call(alloc, &request).err()
+    read_call(alloc, PLATFORM, &request).err()
 }
 
 // The request is no call.

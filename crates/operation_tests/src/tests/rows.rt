@@ -8,7 +8,7 @@ use ph_http::Raw;
 use ph_intents::{
     Begin, Begun, begin, cancel, capture, create, fail_authentication, settle, update,
 };
-use ph_items::{Account, AccountType, Charge, Intent, Item, Metadata};
+use ph_items::{Account, AccountType, Charge, Intent, Item, Metadata, PLATFORM};
 use ph_rows::{Batch, ListView, Row, View};
 use std::alloc::Global;
 use std::process::Abort;
@@ -65,7 +65,7 @@ fn request(alloc: Global, path: &str, body: &str) -> Result<Raw, NoMemory> {
 /// The call that is sent to a path with a body.
 pub fn call_of(alloc: Global, path: &str, body: &str) -> Result<Call, NoMemory> {
     let raw = request(alloc, path, body)?;
-    match read_call(alloc, &raw) {
+    match read_call(alloc, PLATFORM, &raw) {
         Ok(request) => Ok(request.call),
         Err(_) => Err(NoMemory),
     }

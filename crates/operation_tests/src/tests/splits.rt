@@ -1,9 +1,9 @@
-//! Splits of charges that stand in the view alone, and a ledger.
+//! Captures of charges that stand in the view alone, and a ledger.
 ghost use Rattle.std.specs.Prelude.{◌≡◌, OnOk};
 
 use super::rows::{OPENED, batch_after, paid};
 use ph_base::NoMemory;
-use ph_charges::split;
+use ph_charges::capture;
 use ph_items::{Txn, TxnSource, TxnType};
 use ph_ledger::Ledger;
 use ph_money::{Amount, Currency};
@@ -12,10 +12,10 @@ use std::alloc::Global;
 use std::process::Abort;
 use std::test::Fail;
 
-// The rows that a split of 500 of a charge adds.
-fn split_rows(alloc: Global, view: &ListView, charge: u64) -> Result<Vec<Row>, NoMemory> {
+// The rows that a capture of 500 of a charge adds.
+fn capture_rows(alloc: Global, view: &ListView, charge: u64) -> Result<Vec<Row>, NoMemory> {
     let mut batch = batch_after(alloc, view);
-    split(alloc, view, charge, Amount::new(500), &mut batch)?;
+    capture(alloc, view, charge, Amount::new(500), None, &mut batch)?;
     batch.into_rows(alloc, None)
 }
 
@@ -31,14 +31,15 @@ fn is_charged(rt: &impl Abort, txn: &Txn) {
     );
 }
 
-// A split reads a charge that isn't in the batch in the view; where there is no such charge nothing is added.
+// A capture reads a charge that isn't in the batch in the view; where there is no such charge nothing is added. Else it
+// adds the charge's version, its transaction and the event.
 #[test]
-fn splits(rt: HostRuntime) -> Result<(), Fail> {
+fn captures(rt: HostRuntime) -> Result<(), Fail> {
     let view = paid(rt.alloc(), 1, "pm_card_visa", "manual")?;
-    assert_eq!(rt; split_rows(rt.alloc(), &view, 5)?.len(), 0);
-    let rows = split_rows(rt.alloc(), &view, 6)?;
-    assert_eq!(rt; rows.len(), 1);
-    is_charged(&rt, rows[0].item.txn().ok_or("no transaction")?);
+    assert_eq!(rt; capture_rows(rt.alloc(), &view, 5)?.len(), 0);
+    let rows = capture_rows(rt.alloc(), &view, 6)?;
+    assert_eq!(rt; rows.len(), 3);
+    is_charged(&rt, rows[1].item.txn().ok_or("no transaction")?);
     Ok(())
 }
 

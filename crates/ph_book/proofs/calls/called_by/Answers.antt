@@ -20,14 +20,14 @@ returns-in-Refused c setup keys caller same serve =
 pub returns-in-None : goal.returns-in-None
 returns-in-None c setup keys caller same serve =
     let store = c.args.store.now in
-    let judged : Accepted c.in-Accepted.call None ≡ request_of c.args.key.now c.args.raw.now =
-    ap (λ (asked : Option Asked). Accepted c.in-Accepted.call asked) (sym c.in-None.is) ∙ sym c.in-Accepted.is ∙ c.in_ok-error.ensures in
-    judged_called setup keys c.args.key.now store.rows store.time c.args.place caller c.args.raw.now (Accepted c.in-Accepted.call None) c.made.result same judged (c.made.ensures caller)
+    let judged : Accepted c.in-Accepted.account c.in-Accepted.call None ≡ request_of c.args.key.now c.args.store.now.rows c.args.raw.now =
+    ap (λ (asked : Option Asked). Accepted c.in-Accepted.account c.in-Accepted.call asked) (sym c.in-None.is) ∙ sym c.in-Accepted.is ∙ c.in_ok-error.ensures in
+    judged_called setup keys c.args.key.now store.rows store.time c.args.place caller c.args.raw.now (Accepted c.in-Accepted.account c.in-Accepted.call None) c.made.result same judged (c.made.ensures caller)
 
 pub returns : goal.returns
 returns c setup keys caller same serve =
     let store = c.args.store.now in
-    let judged : Accepted c.in-Accepted.call (Some c.in-Some.asked) ≡ request_of c.args.key.now c.args.raw.now =
-    ap (λ (asked : Option Asked). Accepted c.in-Accepted.call asked) (sym c.in-Some.is) ∙ sym c.in-Accepted.is ∙ c.in_ok-error.ensures in
-    judged_called setup keys c.args.key.now store.rows store.time c.args.place caller c.args.raw.now (Accepted c.in-Accepted.call (Some c.in-Some.asked)) c.keyed.result same judged
+    let judged : Accepted c.in-Accepted.account c.in-Accepted.call (Some c.in-Some.asked) ≡ request_of c.args.key.now c.args.store.now.rows c.args.raw.now =
+    ap (λ (asked : Option Asked). Accepted c.in-Accepted.account c.in-Accepted.call asked) (sym c.in-Some.is) ∙ sym c.in-Accepted.is ∙ c.in_ok-error.ensures in
+    judged_called setup keys c.args.key.now store.rows store.time c.args.place caller c.args.raw.now (Accepted c.in-Accepted.account c.in-Accepted.call (Some c.in-Some.asked)) c.keyed.result same judged
     (c.keyed.ensures keys caller serve)

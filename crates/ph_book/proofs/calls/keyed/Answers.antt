@@ -24,7 +24,7 @@ returns-in-Fresh c keys caller serve =
     let store = c.args.store.now in
     let asked = c.args.asked in
     let there = c.find.ensures ∙ ap (λ (p : List ℕ × ℕ). found_in asked.account p.0 asked.shape p.1 c.args.records.now) (λ i. (c.as_slice.ensures i, c.time-now.ensures i)) in
-    let own : Upshot = carried store.rows store.time c.args.call.now (empty_batch (length store.rows) store.time c.args.place) in
+    let own : Upshot = carried store.rows c.args.account store.time c.args.call.now (empty_batch (length store.rows) store.time c.args.place) in
     let is : keys.found asked ≡ found.Fresh = serves_fresh keys store.rows c.args.records.now (keys.found asked) _ (serve asked) (sym there ∙ c.in-Fresh.is) in
     subst (λ (what : Found). IfOk c.made.result (λ called. IsCalled store.rows store.time c.args.place caller (Some asked) (asked_if (is_fresh what) (Some asked))
     (call_effect (Some asked.key) (is_fresh what) store.rows store.time c.args.place caller (by_found keys store.rows (empty_batch (length store.rows) store.time c.args.place) own what)) called))
@@ -35,7 +35,7 @@ returns-in-Differs c keys caller serve =
     let store = c.args.store.now in
     let asked = c.args.asked in
     let there = c.find.ensures ∙ ap (λ (p : List ℕ × ℕ). found_in asked.account p.0 asked.shape p.1 c.args.records.now) (λ i. (c.as_slice.ensures i, c.time-now.ensures i)) in
-    let own : Upshot = carried store.rows store.time c.args.call.now (empty_batch (length store.rows) store.time c.args.place) in
+    let own : Upshot = carried store.rows c.args.account store.time c.args.call.now (empty_batch (length store.rows) store.time c.args.place) in
     let is : keys.found asked ≡ found.Differs = serves_differs keys store.rows c.args.records.now (keys.found asked) _ (serve asked) (sym there ∙ c.in-Differs.is) in
     subst (λ (what : Found). IfOk c.refused.result (λ called. IsCalled store.rows store.time c.args.place caller (Some asked) (asked_if (is_fresh what) (Some asked))
     (call_effect (Some asked.key) (is_fresh what) store.rows store.time c.args.place caller (by_found keys store.rows (empty_batch (length store.rows) store.time c.args.place) own what)) called))
@@ -48,7 +48,7 @@ returns-then-is_parked c keys caller serve =
     let store = c.args.store.now in
     let asked = c.args.asked in
     let there = c.find.ensures ∙ ap (λ (p : List ℕ × ℕ). found_in asked.account p.0 asked.shape p.1 c.args.records.now) (λ i. (c.as_slice.ensures i, c.time-now.ensures i)) in
-    let own : Upshot = carried store.rows store.time c.args.call.now (empty_batch (length store.rows) store.time c.args.place) in
+    let own : Upshot = carried store.rows c.args.account store.time c.args.call.now (empty_batch (length store.rows) store.time c.args.place) in
     let parked = sym c.is_parked.ensures ∙ c.if-is_parked.true in
     let is : keys.found asked ≡ found.Parked c.in-Begun.reference =
     serves_parked keys store.rows c.args.records.now (keys.found asked) _ c.in-Begun.reference (serve asked) (sym there ∙ c.in-Begun.is) parked in
@@ -62,7 +62,7 @@ returns-in-Begun c keys caller serve =
     let store = c.args.store.now in
     let asked = c.args.asked in
     let there = c.find.ensures ∙ ap (λ (p : List ℕ × ℕ). found_in asked.account p.0 asked.shape p.1 c.args.records.now) (λ i. (c.as_slice.ensures i, c.time-now.ensures i)) in
-    let own : Upshot = carried store.rows store.time c.args.call.now (empty_batch (length store.rows) store.time c.args.place) in
+    let own : Upshot = carried store.rows c.args.account store.time c.args.call.now (empty_batch (length store.rows) store.time c.args.place) in
     let is : keys.found asked ≡ found.Live = serves_live keys store.rows c.args.records.now (keys.found asked) _ c.in-Begun.reference (serve asked) (sym there ∙ c.in-Begun.is) (sym c.is_parked.ensures ∙ c.if-is_parked.false) in
     subst (λ (what : Found). IfOk c.refused-else-is_parked.result (λ called. IsCalled store.rows store.time c.args.place caller (Some asked) (asked_if (is_fresh what) (Some asked))
     (call_effect (Some asked.key) (is_fresh what) store.rows store.time c.args.place caller (by_found keys store.rows (empty_batch (length store.rows) store.time c.args.place) own what)) called))
@@ -75,7 +75,7 @@ returns c keys caller serve =
     let store = c.args.store.now in
     let asked = c.args.asked in
     let there = c.find.ensures ∙ ap (λ (p : List ℕ × ℕ). found_in asked.account p.0 asked.shape p.1 c.args.records.now) (λ i. (c.as_slice.ensures i, c.time-now.ensures i)) in
-    let own : Upshot = carried store.rows store.time c.args.call.now (empty_batch (length store.rows) store.time c.args.place) in
+    let own : Upshot = carried store.rows c.args.account store.time c.args.call.now (empty_batch (length store.rows) store.time c.args.place) in
     let served = serves_saved keys store.rows c.args.records.now (keys.found asked) _ c.in-Saved.entry (serve asked) (sym there ∙ c.in-Saved.is) in
     let effect = replied_effect false (replayed_reply (keys.reply served.place)) store.time in
     subst (λ (what : Found). IfOk c.replayed.result (λ called. IsCalled store.rows store.time c.args.place caller (Some asked) (asked_if (is_fresh what) (Some asked))

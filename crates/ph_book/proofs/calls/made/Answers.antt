@@ -15,7 +15,7 @@ returns-in-Ok-Added c caller =
     let store = c.args.store.now in
     let key = key_asked c.args.asked in
     let opens = is_some c.args.asked in
-    let upshot : BatchState → Upshot = λ b. carried store.rows store.time c.args.call.now b in
+    let upshot : BatchState → Upshot = λ b. carried store.rows c.args.account store.time c.args.call.now b in
     let now : BatchState = empty_batch (length store.rows) store.time c.args.place in
     let begun : c.new-batch.result ≡ empty_batch (length store.rows) store.time c.args.place =
     c.new-batch.ensures ∙ ap (λ (p : List Row × ℕ). empty_batch (length p.0) p.1 c.args.place) (λ i. (c.rows.ensures.rows i, c.time.ensures i)) in
@@ -29,7 +29,7 @@ returns-in-Ok-Begun c caller =
     let store = c.args.store.now in
     let key = key_asked c.args.asked in
     let opens = is_some c.args.asked in
-    let upshot : BatchState → Upshot = λ b. carried store.rows store.time c.args.call.now b in
+    let upshot : BatchState → Upshot = λ b. carried store.rows c.args.account store.time c.args.call.now b in
     let now : BatchState = empty_batch (length store.rows) store.time c.args.place in
     let begun : c.new-batch.result ≡ empty_batch (length store.rows) store.time c.args.place =
     c.new-batch.ensures ∙ ap (λ (p : List Row × ℕ). empty_batch (length p.0) p.1 c.args.place) (λ i. (c.rows.ensures.rows i, c.time.ensures i)) in
@@ -44,7 +44,7 @@ returns-in-Ok-Shown c caller =
     let store = c.args.store.now in
     let key = key_asked c.args.asked in
     let opens = is_some c.args.asked in
-    let upshot : BatchState → Upshot = λ b. carried store.rows store.time c.args.call.now b in
+    let upshot : BatchState → Upshot = λ b. carried store.rows c.args.account store.time c.args.call.now b in
     let now : BatchState = empty_batch (length store.rows) store.time c.args.place in
     let begun : c.new-batch.result ≡ empty_batch (length store.rows) store.time c.args.place =
     c.new-batch.ensures ∙ ap (λ (p : List Row × ℕ). empty_batch (length p.0) p.1 c.args.place) (λ i. (c.rows.ensures.rows i, c.time.ensures i)) in
@@ -61,7 +61,7 @@ returns-in_ok-clock_doc-in-Ok-Set c caller =
     let store = c.args.store.now in
     let key = key_asked c.args.asked in
     let opens = is_some c.args.asked in
-    let upshot : BatchState → Upshot = λ b. carried store.rows store.time c.args.call.now b in
+    let upshot : BatchState → Upshot = λ b. carried store.rows c.args.account store.time c.args.call.now b in
     let now : BatchState = empty_batch (length store.rows) store.time c.args.place in
     let begun : c.new-batch.result ≡ empty_batch (length store.rows) store.time c.args.place =
     c.new-batch.ensures ∙ ap (λ (p : List Row × ℕ). empty_batch (length p.0) p.1 c.args.place) (λ i. (c.rows.ensures.rows i, c.time.ensures i)) in
@@ -79,7 +79,7 @@ returns-in-Err-Api c caller =
     let store = c.args.store.now in
     let key = key_asked c.args.asked in
     let opens = is_some c.args.asked in
-    let upshot : BatchState → Upshot = λ b. carried store.rows store.time c.args.call.now b in
+    let upshot : BatchState → Upshot = λ b. carried store.rows c.args.account store.time c.args.call.now b in
     let now : BatchState = empty_batch (length store.rows) store.time c.args.place in
     let begun : c.new-batch.result ≡ empty_batch (length store.rows) store.time c.args.place =
     c.new-batch.ensures ∙ ap (λ (p : List Row × ℕ). empty_batch (length p.0) p.1 c.args.place) (λ i. (c.rows.ensures.rows i, c.time.ensures i)) in

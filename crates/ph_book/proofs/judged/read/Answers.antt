@@ -13,7 +13,7 @@ returns-in-Ok c =
     let raw = c.args.raw.now in
     let call = c.in-Ok.request.call in
     let tree = c.in-Ok.request.form in
-    let keyed : Judged = spec.keyed_request raw call tree (spec.key_of raw) in
-    let is : spec.read_request raw (reading_of raw) ≡ keyed =
-    ap (λ (r : Result Call ApiError). spec.read_request raw r) c.in-Ok.ensures.call ∙ ap (λ (f : Result (List Leaf) FormFault). spec.formed_request raw call f) c.in-Ok.ensures.form in
+    let keyed : Judged = spec.keyed_request c.args.account raw call tree (spec.key_of raw) in
+    let is : spec.read_request c.args.account raw (reading_of c.args.account raw) ≡ keyed =
+    ap (λ (r : Result Call ApiError). spec.read_request c.args.account raw r) c.in-Ok.ensures.call ∙ ap (λ (f : Result (List Leaf) FormFault). spec.formed_request c.args.account raw call f) c.in-Ok.ensures.form in
     subst (λ (j : Judged). IfOk c.keyed.result (λ judged. judged ≡ j)) (sym is) (c.keyed.ensures keyed (c.asks.ensures.asked call) (c.asks.ensures.refused call))

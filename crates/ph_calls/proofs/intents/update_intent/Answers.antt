@@ -19,14 +19,21 @@ returns-in_err-metadata-clause-refusal c =
     rw (p.1, p.2, c.in_ok-amount.ensures.value, c.in_ok-currency.ensures.value, c.in_ok-method.ensures.value, c.in_ok-text.ensures.value)
     (refused_there (may kind.Metadata (codes "metadata") c.args.form.now) _ c.in_err-metadata.field-0.0 c.in_err-metadata.ensures.refusal)
 
+pub returns-in_err-amount-2-clause-refusal : goal.returns-in_err-amount-2-clause-refusal
+unfolding given
+returns-in_err-amount-2-clause-refusal c =
+    let p = err_from_is_err_and c.from_residual-in_err-amount-2.result c.from_residual-in_err-amount-2.ensures.1 in
+    rw (p.1, p.2, c.in_ok-amount.ensures.value, c.in_ok-currency.ensures.value, c.in_ok-method.ensures.value, c.in_ok-text.ensures.value, c.in_ok-metadata.ensures.value)
+    (refused_there (may kind.Amount (codes "application_fee_amount") c.args.form.now) _ c.in_err-amount-2.field-0.0 c.in_err-amount-2.ensures.refusal)
+
 pub returns-in_err-text-2-clause-refusal : goal.returns-in_err-text-2-clause-refusal
 unfolding given
 returns-in_err-text-2-clause-refusal c =
     let p = err_from_is_err_and c.from_residual-in_err-text-2.result c.from_residual-in_err-text-2.ensures.1 in
-    rw (p.1, p.2, c.in_ok-amount.ensures.value, c.in_ok-currency.ensures.value, c.in_ok-method.ensures.value, c.in_ok-text.ensures.value, c.in_ok-metadata.ensures.value)
+    rw (p.1, p.2, c.in_ok-amount.ensures.value, c.in_ok-currency.ensures.value, c.in_ok-method.ensures.value, c.in_ok-text.ensures.value, c.in_ok-metadata.ensures.value, c.in_ok-amount-2.ensures.value)
     (refused_there (may (kind.Text 255) (codes "transfer_group") c.args.form.now) _ c.in_err-text-2.field-0.0 c.in_err-text-2.ensures.refusal)
 
 pub returns-clause-call : goal.returns-clause-call
 unfolding given
 returns-clause-call c =
-    rw (c.in_ok-amount.ensures.value, c.in_ok-currency.ensures.value, c.in_ok-method.ensures.value, c.in_ok-text.ensures.value, c.in_ok-metadata.ensures.value, c.in_ok-text-2.ensures.value, c.in_ok-from_slice.ensures) refl
+    rw (c.in_ok-amount.ensures.value, c.in_ok-currency.ensures.value, c.in_ok-method.ensures.value, c.in_ok-text.ensures.value, c.in_ok-metadata.ensures.value, c.in_ok-amount-2.ensures.value, c.in_ok-text-2.ensures.value, c.in_ok-from_slice.ensures) refl

@@ -1,0 +1,22 @@
+//! The account that a request is of.
+ghost use Rattle.std.specs.Prelude.{◌≡◌};
+ghost use Rattle.std.specs.Option.{option_copied};
+ghost use Rattle.ph_accounts.specs.Naming.{account_of};
+
+use ph_base::{Bytes, Kind};
+use ph_items::PLATFORM;
+use ph_rows::{View, object_named};
+
+/// The number of the account that a request names by its printed id; the platform's own where it names none. None exactly
+/// where there is no such account.
+pub fn account_of<V: View>(view: &V, named: Option<&Bytes>) -> Option<u64>
+    ensures { result ≡ account_of (V.state view.now).rows (option_copied named.entry) }
+{
+    match named {
+        None => Some(PLATFORM),
+        Some(text) => {
+            let row = object_named(view, Kind::Account, text.as_slice())?;
+            Some(row.object)
+        }
+    }
+}
