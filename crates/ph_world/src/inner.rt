@@ -183,21 +183,21 @@ impl Inner {
     {
         match order_of(self.tickets.as_slice(), run) {
             None => Ok(None),
-            Some(order) => self.ask(run, order),
+            Some(order) => self.ask(run, &order),
         }
     }
 
     // Asks under the order of a run in flight, and enters what is decided of it.
-    fn ask(&mut self, run: u64, order: Order) -> Result<Option<Reply>, NoMemory>
+    fn ask(&mut self, run: u64, order: &Order) -> Result<Option<Reply>, NoMemory>
         requires in_hand { AllInHand self.old.book self.old.flights }
-        requires order { Some order ≡ option_map (λ flight. flight.order) (flight_in self.old.flights run) }
+        requires order { Some order.now ≡ option_map (λ flight. flight.order) (flight_in self.old.flights run) }
         ensures after { OnOk result (self.new ≡ polled self.old (flight_in self.old.flights run)) }
         ensures reply { IfOk result (λ reply. reply ≡ replied self.old.book self.new.book) }
         ensures unchanged { OnErr result (self.new ≡ self.old) }
     {
         self.asks.reserve(1)?;
-        let ask = Ask { run, order };
         let reference = order.reference;
+        let ask = Ask { run, order: *order };
         match ruling_of(self.decisions.as_slice(), reference) {
             None => {
                 self.asks.push_reserved(ask);
