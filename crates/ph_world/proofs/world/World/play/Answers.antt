@@ -4,10 +4,10 @@ use Rattle.ph_world.proofs.world.World.play.Goals as goal
 
 pub returns-in-Err-clause-stopped : goal.returns-in-Err-clause-stopped
 returns-in-Err-clause-stopped c =
-    stops_at c.args.self.now c.args.moves.now c.loop-m.m-index c.m-item.result.now c.loop-m.self c.step.new.self c.in-Err.why
+    stops_at c.args.self.now c.args.moves.now c.loop-m.m-index c.m-item.result c.loop-m.self c.step.new.self c.in-Err.why
     c.loop-m-test.true c.m-item.is c.loop-m.invariant c.in-Err.ensures.unchanged c.in-Err.ensures.full
 
 pub loop-m-preserved : goal.loop-m-preserved
 loop-m-preserved c =
-    plays_on c.args.self.now c.args.moves.now c.loop-m.m-index c.m-item.result.now c.loop-m.self c.step.new.self
+    plays_on c.args.self.now c.args.moves.now c.loop-m.m-index c.m-item.result c.loop-m.self c.step.new.self
     c.loop-m-test.true c.m-item.is c.loop-m.invariant c.in-Ok.ensures.after
