@@ -1,12 +1,11 @@
 -- What the calls of a world leave is what its definitions say.
-use Rattle.std.proofs.Common.{◌≡◌, ℕ, ◌+◌, cond, Bool, true, false, List, [], ◌∷◌, ◌++◌, length, Option, Some, None, refl, sym, ap, ◌∙◌, subst, arith, append-nil}
+use Rattle.std.proofs.Common.{◌≡◌, ℕ, ◌+◌, cond, false, List, [], ◌∷◌, ◌++◌, length, Option, Some, None, refl, sym, ap, ◌∙◌, subst, append-nil}
 use Rattle.std.specs.Prelude.{option_map}
 use Rattle.ph_base.specs.declared.acquirer.Ruling.{Ruling}
 use Rattle.ph_base.specs.declared.acquirer.Why.{Why}
 use Rattle.ph_attempts.specs.declared.flights.Flight.{Flight}
 use Rattle.ph_bank.specs.declared.memory.Decision.{Decision}
 use Rattle.ph_bank.specs.Scripts.{ruling_of}
-use Rattle.ph_http.specs.declared.message.Reply.{Reply}
 use Rattle.ph_items.specs.declared.orders.Order.{Order}
 use Rattle.ph_book.specs.declared.acts.Answer.{Answer}
 use Rattle.ph_book.specs.declared.acts.Answer.TheVariants as answer
@@ -18,12 +17,12 @@ use Rattle.ph_book.specs.Legal.{is_full}
 use Rattle.ph_book.specs.Replies.{Said, Replies, Waits, Silence}
 use Rattle.ph_book.specs.State.{BookState, entered}
 use Rattle.ph_world.specs.declared.ask.Ask.{Ask}
-use Rattle.ph_world.specs.Flights.{AllInHand, InHand, and_entry, finish_of, flight_in, given_in, park_of, reply_in, reply_to, said_behind, tickets_in, without}
+use Rattle.ph_world.specs.Flights.{AllInHand, and_entry, finish_of, flight_in, given_in, park_of, reply_in, reply_to, said_behind, tickets_in, without}
 use Rattle.ph_world.specs.Moves.{replied}
 use Rattle.ph_world.specs.Worlds.{WorldState, enter, given_up, polled, ruled, with_ask, with_begun, with_end, with_entry, without_ended}
 use Rattle.ph_world.proofs.EntryLemmas.{IsReplied, finish_replied, none_begun, park_replied}
 use Rattle.ph_world.proofs.FlightLemmas.{found_run, in_hand, none_left}
-use Rattle.ph_world.proofs.LawLemmas.{replied_end, replied_entry, replied_same}
+use Rattle.ph_world.proofs.LawLemmas.{replied_end, replied_entry}
 
 -- ---- entries that end no run
 

@@ -1,12 +1,11 @@
 -- The runs in flight are given up one by one, and none is live then.
-use Rattle.std.proofs.Common.{◌≡◌, ◌≢◌, ℕ, ◌+◌, ◌^◌, ◌<◌, ◌≤◌, List, [], ◌∷◌, ◌++◌, length, map, get_or, remove, Option, Some, None, refl, sym, ap, ◌∙◌, subst, arith}
+use Rattle.std.proofs.Common.{◌≡◌, ℕ, ◌^◌, ◌<◌, ◌≤◌, List, [], ◌∷◌, ◌++◌, length, map, get_or, remove, Some, refl, sym, ap, ◌∙◌, subst, arith}
 use Rattle.std.proofs.lemmas.List.{append-nil, append_assoc}
 use Rattle.ph_attempts.specs.declared.flights.Flight.{Flight}
 use Rattle.ph_base.specs.declared.acquirer.Why.TheVariants as why
 use Rattle.ph_book.specs.declared.acts.Deed.TheVariants as deed
 use Rattle.ph_book.specs.declared.acts.Entry.{Entry}
 use Rattle.ph_book.specs.declared.setup.Setup.{Setup}
-use Rattle.ph_book.specs.Entries.{park_entry}
 use Rattle.ph_book.specs.History.{doings_of}
 use Rattle.ph_book.specs.Laws.{RunsFollow, all_but_run, runs_of}
 use Rattle.ph_book.specs.Legal.{IsLegal}
@@ -16,7 +15,7 @@ use Rattle.ph_book.proofs.HistoryLemmas.{legal_more, may_come}
 use Rattle.ph_book.proofs.RunLemmas.{runs_follow, run_held}
 use Rattle.ph_book.proofs.StepLemmas.{park_room}
 use Rattle.ph_doings.proofs.LawProofs.{live_is_run}
-use Rattle.ph_world.specs.Flights.{AllInHand, AreApart, InHand, IsApart}
+use Rattle.ph_world.specs.Flights.{AllInHand, AreApart, IsApart}
 use Rattle.ph_world.specs.Laws.{IsReached, doings_in}
 use Rattle.ph_world.specs.Playing.{dropped_entry, ended}
 use Rattle.ph_world.specs.Worlds.{WorldState}

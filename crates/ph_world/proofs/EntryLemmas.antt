@@ -1,18 +1,17 @@
 -- One entry more in a legal history: what it does, what is said to it, and the live runs after it.
-use Rattle.std.proofs.Common.{◌≡◌, ℕ, suc, ◌+◌, ◌^◌, ◌<◌, Bool, true, false, List, [], ◌∷◌, ◌++◌, length, Option, Some, None, refl, sym, ap, ◌∙◌, subst, arith}
+use Rattle.std.proofs.Common.{◌≡◌, ℕ, suc, ◌+◌, ◌^◌, ◌<◌, List, [], ◌∷◌, ◌++◌, length, Option, Some, refl, sym, ap, ◌∙◌, subst, arith}
 use Rattle.ph_base.specs.declared.acquirer.Ruling.{Ruling}
 use Rattle.ph_base.specs.declared.acquirer.Why.{Why}
 use Rattle.ph_attempts.specs.declared.flights.Flight.{Flight}
 use Rattle.ph_bank.specs.declared.memory.Decision.{Decision}
 use Rattle.ph_bank.specs.Scripts.{ruling_of}
-use Rattle.ph_doings.specs.Doings.{Doing, Leaves, Parks, Settles}
+use Rattle.ph_doings.specs.Doings.{Doing, Leaves}
 use Rattle.ph_doings.specs.Kept.{step_of}
 use Rattle.ph_doings.specs.Lawful.{IsLawful, MayDo}
-use Rattle.ph_doings.specs.Runs.{Flies, live_run, live_runs}
+use Rattle.ph_doings.specs.Runs.{live_runs}
 use Rattle.ph_doings.proofs.Kept.{sound}
 use Rattle.ph_doings.proofs.KeptLists.{begun_last, unchanged}
 use Rattle.ph_http.specs.declared.message.Raw.{Raw}
-use Rattle.ph_book.specs.declared.acts.Deed.TheVariants as deed
 use Rattle.ph_book.specs.declared.acts.Entry.{Entry}
 use Rattle.ph_book.specs.declared.setup.Setup.{Setup}
 use Rattle.ph_book.specs.Entries.{call_entry, finish_entry, park_entry, resume_entry, tick_entry}

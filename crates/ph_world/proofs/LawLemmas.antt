@@ -1,5 +1,5 @@
 -- The laws of every list of moves.
-use Rattle.std.proofs.Common.{◌≡◌, ℕ, ◌+◌, ◌<◌, ◌≤◌, ◌==◌, ◌&&◌, ◌⊎◌, cond, Bool, true, false, List, [], ◌∷◌, ◌++◌, length, Option, Some, None, refl, sym, ap, ◌∙◌, subst, inl, inr, length-append, arith}
+use Rattle.std.proofs.Common.{◌≡◌, ℕ, ◌+◌, ◌≤◌, ◌==◌, ◌&&◌, ◌⊎◌, cond, Bool, true, false, List, [], ◌∷◌, ◌++◌, length, Option, Some, None, refl, sym, ap, ◌∙◌, subst, inl, inr, length-append, arith}
 use Rattle.std.specs.Prelude.{count_by}
 use Rattle.std.specs.List.{list_all}
 use Rattle.std.proofs.lemmas.Bool.{eq-eqb}
@@ -23,16 +23,14 @@ use Rattle.ph_book.specs.Legal.{is_full}
 use Rattle.ph_book.specs.Replies.{Said, Replies, Waits, Silence}
 use Rattle.ph_book.specs.State.{BookState, entered}
 use Rattle.ph_book.proofs.HistoryLemmas.{past_more}
-use Rattle.ph_world.specs.declared.ask.Ask.{Ask}
 use Rattle.ph_world.specs.declared.moves.Move.{Move}
 use Rattle.ph_world.specs.declared.moves.Move.TheVariants as move
 use Rattle.ph_world.specs.Flights.{and_entry, flight_in, reply_in, reply_to, said_behind}
-use Rattle.ph_world.specs.Laws.{AsksAreOrders, AsksLive, AsksOfLiveAttempts, AuthorisedOnce, DecisionsStay, Everywhere, IsFit, IsLastReply, IsLegalWorld, RepliesAreAnswers, RulingsAreDecisions, authorised_of, doings_in, is_approval, is_asked, is_authorised}
+use Rattle.ph_world.specs.Laws.{AsksAreOrders, AsksLive, AsksOfLiveAttempts, AuthorisedOnce, DecisionsStay, Everywhere, IsLastReply, IsLegalWorld, RepliesAreAnswers, RulingsAreDecisions, doings_in, is_approval, is_asked, is_authorised}
 use Rattle.ph_world.specs.Moves.{after_move, after_moves, is_possible, last_said, moved, newest, replied}
-use Rattle.ph_world.specs.Worlds.{WorldState, decided, enter, given_up, new_world, polled, ruled, with_ask, with_entry}
+use Rattle.ph_world.specs.Worlds.{WorldState, enter, given_up, new_world, polled, ruled, with_ask, with_entry}
 use Rattle.ph_world.proofs.EntryLemmas.{lawful}
 use Rattle.ph_world.proofs.MoveLemmas.{IsSound, all_sound, decision_stays, flight_live}
-use Rattle.ph_world.proofs.WellLemmas.{IsWell}
 
 -- ---- confirmations
 

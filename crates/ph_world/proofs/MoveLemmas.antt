@@ -1,5 +1,5 @@
 -- Every move keeps what holds of a world.
-use Rattle.std.proofs.Common.{◌≡◌, ℕ, suc, ◌+◌, ◌^◌, ◌<◌, ◌≤◌, ◌==◌, nat_le, nat_lt, cond, Bool, true, false, IsTrue, List, [], ◌∷◌, ◌++◌, length, take, drop, get_or, Option, Some, None, refl, sym, ap, ◌∙◌, subst, arith, Result, Ok, Err}
+use Rattle.std.proofs.Common.{◌≡◌, ℕ, suc, ◌+◌, ◌^◌, ◌<◌, ◌≤◌, ◌==◌, nat_le, cond, Bool, true, false, IsTrue, List, [], ◌∷◌, ◌++◌, length, take, drop, get_or, Option, Some, None, refl, sym, ap, ◌∙◌, subst, arith, Result, Ok, Err}
 use Rattle.std.specs.Prelude.{OnOk, OnErr}
 use Rattle.std.proofs.lemmas.Bool.{leb-true, ltb-true}
 use Rattle.std.proofs.lemmas.List.{take_more, take-append-drop}
@@ -14,14 +14,13 @@ use Rattle.ph_doings.specs.Standings.{Live}
 use Rattle.ph_doings.proofs.LawProofs.{live_is_run}
 use Rattle.ph_http.specs.declared.message.Raw.{Raw}
 use Rattle.ph_items.specs.Clocks.{clock_limit}
-use Rattle.ph_book.specs.declared.acts.Deed.{Deed}
 use Rattle.ph_book.specs.declared.acts.Deed.TheVariants as deed
 use Rattle.ph_book.specs.declared.acts.Entry.{Entry}
 use Rattle.ph_book.specs.declared.setup.Setup.{Setup}
-use Rattle.ph_book.specs.Entries.{IsWithinClock, call_entry, finish_entry, park_entry, resume_entry, tick_entry}
-use Rattle.ph_book.specs.History.{doings_of, past_of}
+use Rattle.ph_book.specs.Entries.{call_entry, finish_entry, park_entry, resume_entry, tick_entry}
+use Rattle.ph_book.specs.History.{doings_of}
 use Rattle.ph_book.specs.Laws.{all_but_run, runs_of}
-use Rattle.ph_book.specs.Legal.{EndsOwn, IsAllowed, is_full}
+use Rattle.ph_book.specs.Legal.{EndsOwn, is_full}
 use Rattle.ph_book.specs.State.{BookState}
 use Rattle.ph_book.specs.Tickets.{Holds}
 use Rattle.ph_book.proofs.HistoryLemmas.{may_come}
@@ -31,12 +30,12 @@ use Rattle.ph_world.specs.declared.moves.Move.{Move}
 use Rattle.ph_world.specs.declared.moves.Move.TheVariants as move
 use Rattle.ph_world.specs.declared.moves.WorldError.{WorldError}
 use Rattle.ph_world.specs.declared.moves.WorldError.TheVariants as error
-use Rattle.ph_world.specs.Flights.{AllInHand, finish_of, flight_in, park_of, without}
-use Rattle.ph_world.specs.Laws.{AllAreOrders, HasBegun, IsFit, IsLive, IsOrder, IsReached, RulingsAreDecisions, doings_in}
+use Rattle.ph_world.specs.Flights.{AllInHand, flight_in, without}
+use Rattle.ph_world.specs.Laws.{AllAreOrders, IsFit, IsLive, IsOrder, IsReached, doings_in}
 use Rattle.ph_world.specs.Moves.{after_move, after_moves, is_caller, is_possible, is_refused, moved}
 use Rattle.ph_world.specs.Playing.{StopsAt}
-use Rattle.ph_world.specs.Worlds.{WorldState, decided, enter, given_up, new_world, polled, ruled, with_ask, with_end, with_entry}
-use Rattle.ph_world.proofs.EntryLemmas.{Goes, call_goes, finish_goes, lawful, park_goes, resume_goes, tick_goes}
+use Rattle.ph_world.specs.Worlds.{WorldState, decided, enter, given_up, new_world, polled, ruled, with_ask, with_entry}
+use Rattle.ph_world.proofs.EntryLemmas.{call_goes, finish_goes, lawful, park_goes, resume_goes, tick_goes}
 use Rattle.ph_world.proofs.RisingLemmas.{one_goes}
 use Rattle.ph_world.proofs.FlightLemmas.{found_run}
 use Rattle.ph_world.proofs.WellLemmas.{IsWell, entry_well, flight_began, flight_flies, flight_held, flights_rise, new_well, tickets_in_hand}

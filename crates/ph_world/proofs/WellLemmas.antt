@@ -1,24 +1,24 @@
 -- What every world keeps that moves lead to, and that one entry more keeps it.
-use Rattle.std.proofs.Common.{◌≡◌, ℕ, ◌+◌, ◌^◌, ◌<◌, Bool, true, false, List, [], ◌∷◌, ◌++◌, length, Option, Some, None, refl, sym, ap, ◌∙◌, subst, arith}
+use Rattle.std.proofs.Common.{◌≡◌, ℕ, ◌+◌, ◌^◌, ◌<◌, List, [], ◌∷◌, ◌++◌, length, Option, Some, None, refl, sym, ap, ◌∙◌, subst}
 use Rattle.std.proofs.lemmas.List.{append_assoc}
 use Rattle.ph_attempts.specs.declared.flights.Flight.{Flight}
 use Rattle.ph_doings.specs.Doings.{Doing}
 use Rattle.ph_doings.specs.Lawful.{MayDo}
-use Rattle.ph_doings.specs.Runs.{Flies, live_run, live_runs}
+use Rattle.ph_doings.specs.Runs.{Flies, live_run}
 use Rattle.ph_doings.proofs.LawProofs.{live_is_run}
 use Rattle.ph_items.specs.declared.orders.Order.{Order}
 use Rattle.ph_book.specs.declared.acts.Entry.{Entry}
 use Rattle.ph_book.specs.declared.setup.Setup.{Setup}
-use Rattle.ph_book.specs.History.{doings_of, effect_to, past_of, said_to}
-use Rattle.ph_book.specs.Laws.{ended_in, runs_of}
-use Rattle.ph_book.specs.Legal.{IsAllowed, IsLegal}
+use Rattle.ph_book.specs.History.{doings_of, effect_to, past_of}
+use Rattle.ph_book.specs.Laws.{ended_in}
+use Rattle.ph_book.specs.Legal.{IsAllowed}
 use Rattle.ph_book.specs.Replies.{Said, Replies, Waits, Silence}
 use Rattle.ph_book.specs.State.{BookState, entered}
 use Rattle.ph_book.specs.Tickets.{Holds}
 use Rattle.ph_book.proofs.HistoryLemmas.{doings_grow, legal_more}
 use Rattle.ph_book.proofs.RunLemmas.{run_held}
 use Rattle.ph_world.specs.declared.ask.Ask.{Ask}
-use Rattle.ph_world.specs.Flights.{AllInHand, InHand, flight_in, said_behind, without}
+use Rattle.ph_world.specs.Flights.{AllInHand, InHand, flight_in, said_behind}
 use Rattle.ph_world.specs.Laws.{AllAreOrders, HasBegun, IsFit, IsLegalWorld, IsOrder, RulingsAreDecisions, WaitsAt, doings_in}
 use Rattle.ph_world.specs.Worlds.{WorldState, new_world, with_begun, with_entry, without_ended}
 use Rattle.ph_world.proofs.DoingLemmas.{AreDecided, begun_stays, decided_stays}

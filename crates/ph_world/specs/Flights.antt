@@ -1,5 +1,5 @@
 -- Runs in flight, their tickets, and the entries that end them.
-use Rattle.std.specs.Prelude.{◌≢◌, ℕ, ◌+◌, ◌^◌, ◌<◌, ◌==◌, if◌then◌else◌, Bool, List, [], ◌∷◌, length, Option, Some, None, option_map}
+use Rattle.std.specs.Prelude.{◌≢◌, ℕ, ◌^◌, ◌<◌, ◌==◌, if◌then◌else◌, Bool, List, [], ◌∷◌, Option, Some, None, option_map}
 use Rattle.std.specs.List.{find}
 use Rattle.ph_base.specs.declared.acquirer.Ruling.{Ruling}
 use Rattle.ph_base.specs.declared.acquirer.Why.{Why}

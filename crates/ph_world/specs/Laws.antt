@@ -6,7 +6,6 @@ use Rattle.ph_base.specs.declared.acquirer.Ruling.TheVariants as ruling
 use Rattle.ph_http.specs.declared.message.Reply.{Reply}
 use Rattle.ph_items.specs.Clocks.{clock_limit}
 use Rattle.ph_items.specs.declared.orders.Order.{Order}
-use Rattle.ph_bank.specs.declared.memory.Decision.{Decision}
 use Rattle.ph_bank.specs.Scripts.{ruling_of}
 use Rattle.ph_doings.specs.Confirmations.{attempts_of_confirmation}
 use Rattle.ph_doings.specs.Doings.{Doing}

@@ -1,4 +1,4 @@
-//! All lists of up to five moves over two requests under one key, each compared with the plain definitions.
+//! All lists of up to some number of moves over two requests under one key, each compared with the plain definitions.
 //!
 //! The requests are equal, and of two callers that race for the key; the runs that the lists name are the first that a
 //! request begins, and those that begin at the third place.
@@ -6,7 +6,7 @@
 use crate::plain::{Plain, Step};
 use crate::requests::{request_of, setup_of};
 use crate::shown::{add_number, add_text};
-use ph_base::{Decline, NoMemory, Ruling};
+use ph_base::{Decline, NoMemory, Ruling, read_number};
 use ph_book::Book;
 use ph_world::{Move, World, WorldError};
 use std::alloc::Global;
@@ -14,7 +14,8 @@ use std::alloc::Global;
 // The reference of the attempt: the number of its object.
 const REFERENCE: u64 = 3;
 
-const LONGEST: u32 = 5;
+// The lists of one length are numbered in 32 bits, a digit a move.
+const LONGEST: u32 = 9;
 
 const STEPS: [Step; 10] = [
     Step::Arrive(1),
@@ -101,12 +102,23 @@ fn is_played(alloc: Global, number: u32, length: u32) -> Result<bool, NoMemory> 
     agree
 }
 
-/// Plays all lists, and says how many there are and how many differ from the plain definitions.
-pub fn play_all(alloc: Global) -> Result<Vec<u8>, NoMemory> {
+/// The number of moves that these digits are, where lists of so many can be played.
+pub fn longest_of(digits: &str) -> Option<u32> {
+    let longest = u32::try_from(read_number(digits.as_bytes())?).ok()?;
+    if longest <= LONGEST {
+        Some(longest)
+    } else {
+        None
+    }
+}
+
+/// Plays all lists of up to this number of moves, and says how many there are and how many differ from the plain
+/// definitions.
+pub fn play_all(alloc: Global, longest: u32) -> Result<Vec<u8>, NoMemory> {
     let mut lists = 0u64;
     let mut differ = 0u64;
     let mut count = 1u32;
-    for length in 0..=LONGEST {
+    for length in 0..=longest {
         for number in 0..count {
             lists = lists.saturating_add(1);
             if !is_played(alloc, number, length)? {
@@ -117,7 +129,9 @@ pub fn play_all(alloc: Global) -> Result<Vec<u8>, NoMemory> {
     }
     let mut output = Vec::new(alloc);
     add_number(alloc, &mut output, lists)?;
-    add_text(&mut output, " lists of up to 5 moves, ")?;
+    add_text(&mut output, " lists of up to ")?;
+    add_number(alloc, &mut output, longest as u64)?;
+    add_text(&mut output, " moves, ")?;
     add_number(alloc, &mut output, differ)?;
     add_text(&mut output, " differ\n")?;
     Ok(output)

@@ -1,4 +1,4 @@
-use Rattle.std.proofs.Common.{Option, Some, sym, ap, ◌∙◌}
+use Rattle.std.proofs.Common.{Option, sym, ap, ◌∙◌}
 use Rattle.ph_attempts.specs.declared.flights.Flight.{Flight}
 use Rattle.ph_world.specs.Flights.{and_entry, park_of, reply_to}
 use Rattle.ph_world.proofs.FlightLemmas.{in_hand, not_placed_in, placed_in}

@@ -1,4 +1,4 @@
-use Rattle.std.proofs.Common.{◌≡◌, List, [], ◌∷◌, ◌++◌, Some, sym, ap, ◌∙◌, subst}
+use Rattle.std.proofs.Common.{List, [], ◌∷◌, ◌++◌, sym, ap, ◌∙◌, subst}
 use Rattle.std.specs.Prelude.{option_map}
 use Rattle.ph_attempts.specs.declared.flights.Flight.{Flight}
 use Rattle.ph_bank.specs.declared.memory.Decision.{Decision}
@@ -7,7 +7,7 @@ use Rattle.ph_world.specs.declared.ask.Ask.{Ask}
 use Rattle.ph_world.specs.Flights.{AllInHand, finish_of, flight_in}
 use Rattle.ph_world.specs.Moves.{replied}
 use Rattle.ph_world.specs.Worlds.{WorldState}
-use Rattle.ph_world.proofs.CodeLemmas.{ended_reply, pending_is, ruled_is, stays_is}
+use Rattle.ph_world.proofs.CodeLemmas.{ended_reply, pending_is, ruled_is}
 use Rattle.ph_world.proofs.LawLemmas.{replied_same}
 use Rattle.ph_world.proofs.inner.Inner.ask.Goals as goal
 

@@ -1,7 +1,6 @@
 use Rattle.std.proofs.Common.{◌≡◌, List, None, sym, ap, ◌∙◌}
 use Rattle.std.specs.Prelude.{option_map}
 use Rattle.ph_attempts.specs.declared.flights.Flight.{Flight}
-use Rattle.ph_book.specs.State.{BookState}
 use Rattle.ph_world.specs.Flights.{flight_in}
 use Rattle.ph_world.specs.Moves.{replied}
 use Rattle.ph_world.specs.Worlds.{WorldState, polled}

@@ -1,4 +1,4 @@
-use Rattle.std.proofs.Common.{◌≡◌, [], sym, ap, ◌∙◌, subst}
+use Rattle.std.proofs.Common.{◌≡◌, [], sym, subst}
 use Rattle.ph_book.specs.Laws.{runs_of}
 use Rattle.ph_book.specs.State.{BookState}
 use Rattle.ph_world.proofs.EndLemmas.{reached_apart, reached_none}

@@ -1,4 +1,3 @@
-use Rattle.std.proofs.Common.{sym, ap, ◌∙◌}
 use Rattle.ph_world.proofs.MoveLemmas.{plays_on, stops_at}
 use Rattle.ph_world.proofs.world.World.play.Goals as goal
 
