@@ -33,7 +33,7 @@ use Rattle.ph_world.specs.declared.moves.WorldError.TheVariants as error
 use Rattle.ph_world.specs.Flights.{AllInHand, flight_in, without}
 use Rattle.ph_world.specs.Laws.{AllAreOrders, IsFit, IsLive, IsOrder, IsReached, doings_in}
 use Rattle.ph_world.specs.Moves.{after_move, after_moves, is_caller, is_possible, is_refused, moved}
-use Rattle.ph_world.specs.Playing.{StopsAt}
+use Rattle.ph_world.specs.Playing.{NoneRefused, StopsAt}
 use Rattle.ph_world.specs.Worlds.{WorldState, decided, enter, given_up, new_world, polled, ruled, with_ask, with_entry}
 use Rattle.ph_world.proofs.EntryLemmas.{call_goes, finish_goes, lawful, park_goes, resume_goes, tick_goes}
 use Rattle.ph_world.proofs.RisingLemmas.{one_goes}
@@ -312,17 +312,30 @@ plays_on old moves at m before after within here led is =
     ∙ ap (λ (next : Move). after_moves old (take at moves ++ next ∷ [])) here
     ∙ ap (after_moves old) (sym (take_more moves at m within))
 
+none_push : (world : WorldState) (moves : List Move) (m : Move) → NoneRefused world moves
+    → is_refused (after_moves world moves).book m ≡ false → NoneRefused world (moves ++ m ∷ [])
+none_push world [] m none last = (last, tt)
+none_push world (first ∷ moves) m none last = (none.0, none_push (after_move world first) moves m none.1 last)
+
+pub none_more : (old : WorldState) (moves : List Move) (at : ℕ) (m : Move) (before : WorldState) → at < length moves → m ≡ get_or moves at m
+    → before ≡ after_moves old (take at moves) → NoneRefused old (take at moves) → is_refused before.book m ≡ false
+    → NoneRefused old (take (at + 1) moves)
+none_more old moves at m before within here led none room =
+    subst (NoneRefused old) (ap (λ (next : Move). take at moves ++ next ∷ []) here ∙ sym (take_more moves at m within))
+    (none_push old (take at moves) m none (subst (λ (w : WorldState). is_refused w.book m ≡ false) led room))
+
 -- a move that is refused
 pub stops_at : (old : WorldState) (moves : List Move) (at : ℕ) (m : Move) (before after : WorldState) (why : WorldError)
-    → at < length moves → m ≡ get_or moves at m → before ≡ after_moves old (take at moves) → after ≡ before
+    → at < length moves → m ≡ get_or moves at m → before ≡ after_moves old (take at moves) → NoneRefused old (take at moves) → after ≡ before
     → (why ≡ error.Full → IsTrue (is_refused before.book m)) → StopsAt old moves after why
-stops_at old moves at m before after why within here led same full = record {
+stops_at old moves at m before after why within here led none same full = record {
   played = take at moves;
   refused = m;
   left = drop (suc at) moves;
   moves_are = sym (take-append-drop at moves)
       ∙ ap (λ (rest : List Move). take at moves ++ rest)
       (drop-cons moves at m within ∙ ap (λ (next : Move). next ∷ drop (suc at) moves) (sym here));
+  room = none;
   stands = same ∙ led;
   full = λ is. subst (λ (w : WorldState). IsTrue (is_refused w.book m)) (sym same) (full is);
 }

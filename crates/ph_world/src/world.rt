@@ -5,7 +5,7 @@ ghost use Rattle.ph_book.specs.Laws.{runs_of};
 ghost use Rattle.ph_world.specs.declared.moves.WorldError.TheVariants as error;
 ghost use Rattle.ph_world.specs.Laws.{IsReached};
 ghost use Rattle.ph_world.specs.Moves.{after_move, after_moves, is_refused, replied};
-ghost use Rattle.ph_world.specs.Playing.{StopsAt, ended};
+ghost use Rattle.ph_world.specs.Playing.{NoneRefused, StopsAt, ended};
 ghost use Rattle.ph_world.specs.Worlds.{new_world};
 
 use crate::inner::Inner;
@@ -66,6 +66,7 @@ impl World {
     /// Carries out moves in order, up to one that is refused: those before it stand.
     pub fn play(&mut self, moves: &[Move]) -> Result<(), WorldError>
         ensures played { OnOk result (self.new ≡ after_moves self.old moves.now) }
+        ensures room { OnOk result (NoneRefused self.old moves.now) }
         ensures stopped { IfErr result (λ why. StopsAt self.old moves.now self.new why) }
     {
         for m in moves {
