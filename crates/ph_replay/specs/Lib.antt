@@ -1,0 +1,4 @@
+pub mod Told
+pub mod Tickets
+pub mod Legal
+pub mod State

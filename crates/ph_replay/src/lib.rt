@@ -1,0 +1,14 @@
+//! A history entered anew: its book, what was replied, and the tickets of the runs that are still live.
+#![tactic(auto)]
+
+mod copies;
+mod laws;
+mod replayed;
+mod replaying;
+mod tickets;
+mod told;
+
+pub use laws::illegal_is_not_legal;
+pub use replayed::Replayed;
+pub use replaying::replay;
+pub use told::Told;

@@ -1,0 +1,121 @@
+//! What comes of a text.
+
+use ph_base::NoMemory;
+use ph_book::{Entry, Setup};
+use ph_history::{HistoryFault, read_history, write_history};
+use ph_io::{MemSink, MemSource};
+use ph_replay::{Replayed, Told, replay};
+use std::alloc::Global;
+
+/// A text, and how it is read.
+pub struct Input<'a> {
+    pub bytes: &'a [u8],
+    /// At most so many bytes are read at a time.
+    pub most: usize,
+    /// The read of this number fails.
+    pub fault: Option<u64>,
+}
+
+impl<'a> Input<'a> {
+    /// A text that is read in large pieces, and no read fails.
+    pub fn of(bytes: &'a [u8]) -> Self {
+        Input {
+            bytes,
+            most: 65_536,
+            fault: None,
+        }
+    }
+}
+
+// What was read of an input.
+fn read(alloc: Global, input: &Input<'_>) -> Result<Result<(Setup, Vec<Entry>), HistoryFault>, NoMemory> {
+    let mut failing = Vec::new(alloc);
+    if let Some(number) = input.fault {
+        failing.push(number)?;
+    }
+    let bytes = Vec::from_slice(alloc, input.bytes)?;
+    let mut source = MemSource::new(bytes, input.most.max(1), failing);
+    Ok(read_history(alloc, &mut source))
+}
+
+/// What comes of a text, in one line: how many entries were read and whether they are written as the same text, how many
+/// replies were made anew, and how many runs are live; or the fault.
+pub fn line(alloc: Global, input: &Input<'_>) -> Result<String, NoMemory> {
+    let (setup, entries) = match read(alloc, input)? {
+        Ok(history) => history,
+        Err(fault) => return named(alloc, fault),
+    };
+    let again = again(alloc, &setup, entries.as_slice(), input.bytes)?;
+    let count = entries.len();
+    match replay(alloc, setup, entries.as_slice()) {
+        Ok(replayed) => {
+            let line = counted(alloc, count, again, &replayed);
+            replayed.end();
+            line
+        }
+        Err(fault) => named(alloc, fault),
+    }
+}
+
+fn counted(alloc: Global, count: usize, again: &str, replayed: &Replayed) -> Result<String, NoMemory> {
+    let replies = replayed.replies().len();
+    let live = replayed.tickets().len();
+    Ok(format!(in alloc; "entries {count}, {again}, replies {replies}, live {live}")?)
+}
+
+// Whether a history is written as this text.
+fn again(alloc: Global, setup: &Setup, entries: &[Entry], text: &[u8]) -> Result<&'static str, NoMemory> {
+    let mut sink = MemSink::new(alloc, 65_536, Vec::new(alloc));
+    let written = write_history(setup, entries, &mut sink);
+    if written.is_ok() && sink.bytes() == text {
+        Ok("written the same")
+    } else {
+        Ok("written otherwise")
+    }
+}
+
+/// What comes of the text of a case: its name, the line, and each reply that was made anew.
+pub fn shown(alloc: Global, name: &str, text: &str) -> Result<String, NoMemory> {
+    let input = Input::of(text.as_bytes());
+    let line = line(alloc, &input)?;
+    let mut shown = format!(in alloc; "{name} | {line}\n")?;
+    if let Ok((setup, entries)) = read(alloc, &input)? {
+        if let Ok(replayed) = replay(alloc, setup, entries.as_slice()) {
+            let lines = replies(alloc, &replayed);
+            replayed.end();
+            shown.push_str(lines?.as_str())?;
+        }
+    }
+    Ok(shown)
+}
+
+// A line for each reply.
+fn replies(alloc: Global, replayed: &Replayed) -> Result<String, NoMemory> {
+    let mut lines = String::new(alloc);
+    for told in replayed.replies() {
+        lines.push_str(reply(alloc, told)?.as_str())?;
+    }
+    Ok(lines)
+}
+
+fn reply(alloc: Global, told: &Told) -> Result<String, NoMemory> {
+    let Told {
+        place,
+        status,
+        digest,
+    } = told;
+    let digits = hex::encode(alloc, digest)?;
+    let digits = digits.as_str();
+    Ok(format!(in alloc; "reply {place} {status} {digits}\n")?)
+}
+
+// The name of a fault.
+fn named(alloc: Global, fault: HistoryFault) -> Result<String, NoMemory> {
+    Ok(match fault {
+        HistoryFault::BadLine { at } => format!(in alloc; "bad line {at}")?,
+        HistoryFault::Illegal { at } => format!(in alloc; "illegal line {at}")?,
+        HistoryFault::Cut => format!(in alloc; "cut")?,
+        HistoryFault::ReadFault => format!(in alloc; "read fault")?,
+        HistoryFault::NoMemory => return Err(NoMemory),
+    })
+}
