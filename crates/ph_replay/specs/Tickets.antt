@@ -1,7 +1,13 @@
 -- Tickets in hand.
-use Rattle.std.specs.Prelude.{◌≢◌, ℕ, List, [], ◌∷◌, if◌then◌else◌}
+use Rattle.std.specs.Prelude.{◌≡◌, ◌≢◌, ℕ, ◌^◌, ◌<◌, Bool, List, [], ◌∷◌, if◌then◌else◌, Option, Some, None}
+use Rattle.std.specs.List.{find}
 use Rattle.ph_attempts.specs.declared.flights.Flight.{Flight}
 use Rattle.ph_doings.specs.Kept.{is_run}
+use Rattle.ph_book.specs.declared.acts.Entry.{Entry}
+use Rattle.ph_book.specs.declared.setup.Setup.{Setup}
+use Rattle.ph_book.specs.Laws.{runs_of}
+use Rattle.ph_book.specs.OwnRuns.{own_of}
+use Rattle.ph_book.specs.Tickets.{Holds}
 
 -- a run is none of these
 abbrev pub IsApart : Flight → List Flight → Type 0
@@ -13,7 +19,18 @@ abbrev pub AreApart : List Flight → Type 0
 AreApart [] = Unit {0}
 AreApart (ticket ∷ tickets) = IsApart ticket tickets × AreApart tickets
 
--- all but the first that is of this run of this caller
-abbrev pub without_run_of : ℕ → ℕ → List Flight → List Flight
-without_run_of caller run [] = []
-without_run_of caller run (ticket ∷ tickets) = if is_run caller run ticket then tickets else ticket ∷ without_run_of caller run tickets
+-- each ticket's caller is one of those that callers may have
+abbrev pub AreOfCallers : List Flight → Type 0
+AreOfCallers [] = Unit {0}
+AreOfCallers (ticket ∷ tickets) = (ticket.caller < 2 ^ 62) × AreOfCallers tickets
+
+-- all but the first that passes
+abbrev pub without_first : (Flight → Bool) → List Flight → List Flight
+without_first passes [] = []
+without_first passes (ticket ∷ tickets) = if passes ticket then tickets else ticket ∷ without_first passes tickets
+
+-- the live runs of a history are found by their callers and numbers: what is found is the caller's, and what isn't found isn't live
+pub record AreFound (setup : Setup) (history : List Entry) : Type 0 where
+  pub found : (caller run : ℕ) (ticket : Flight) → find (is_run caller run) (runs_of setup history) ≡ Some ticket
+      → (ticket.run ≡ run) × (ticket.caller ≡ caller) × Holds setup history caller ticket
+  pub others : (caller run : ℕ) → find (is_run caller run) (runs_of setup history) ≡ None → own_of setup history caller run ≡ None

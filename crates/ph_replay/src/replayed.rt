@@ -13,6 +13,7 @@ ghost use Rattle.ph_replay.specs.State.{IsUnentered, reason};
 ghost use Rattle.ph_replay.specs.Told.{told_of};
 
 use crate::copies::copy_raw;
+use crate::laws::runs_are_found;
 use crate::tickets::take_ticket;
 use crate::told::{Told, told};
 use ph_attempts::Ticket;
@@ -170,6 +171,7 @@ impl Replayed {
         self.replies.reserve(1)?;
         let place = self.next_place();
         runs_follow(self.book.setup(), self.book.history());
+        runs_are_found(&self.book);
         let Some(ticket) = take_ticket(&mut self.tickets, caller, run) else {
             return Err(Unentered::Illegal);
         };
@@ -201,6 +203,7 @@ impl Replayed {
         self.replies.reserve(1)?;
         let place = self.next_place();
         runs_follow(self.book.setup(), self.book.history());
+        runs_are_found(&self.book);
         let Some(ticket) = take_ticket(&mut self.tickets, caller, run) else {
             return Err(Unentered::Illegal);
         };
@@ -245,8 +248,10 @@ impl Replayed {
             replies: _,
             mut tickets,
         } = self;
-        while let Some(ticket) = tickets.pop() {
+        'runs: while !tickets.is_empty() {
             runs_follow(book.setup(), book.history());
+            runs_are_found(&book);
+            let ticket = tickets.remove(0);
             let _reply = given_up(&mut book, ticket, Why::Pending);
         }
         tickets.destroy_empty();
