@@ -37,7 +37,7 @@ use Rattle.ph_book.proofs.RunLemmas.{run_held}
 use Rattle.ph_book.proofs.StandLemmas.{history_stands}
 use Rattle.ph_replay.specs.declared.told.Told.{Told}
 use Rattle.ph_replay.specs.State.{IsReplay}
-use Rattle.ph_replay.specs.Tickets.{AreApart, AreFound, AreOfCallers, IsApart, without_first}
+use Rattle.ph_replay.specs.Tickets.{AreApart, AreFound, AreKept, AreOfCallers, IsApart, without_first}
 use Rattle.ph_replay.specs.Told.{told_at, told_from, told_of}
 
 -- ---- what is told
@@ -214,7 +214,7 @@ are_found setup history few legal =
     record {
       found = λ caller run ticket is.
           let it = finds.found caller run ticket (ap (find (is_run caller run)) kept.live ∙ is) in
-          (it.1.0, it.1.1, run_held setup history caller ticket (ap (live_run past) it.1.0 ∙ it.0) it.1.1);
+          (it.1, it.2, run_held setup history caller ticket (ap (live_run past) it.1 ∙ it.0) it.2);
       others = λ caller run none.
           own_none past caller run (live_run past run)
           (λ flight is own.
@@ -233,9 +233,11 @@ call_replied old new caller raw replies tickets reply told runs state is says te
     let said = says_reply (length old.history + 1) caller (said_to old.setup old.history (call_entry caller raw)) reply says in
     subst (λ (book : BookState). IsReplay book.setup book.history (replies ++ told ∷ []) tickets) (sym is) (record {
       told = told_reply old.setup old.history (call_entry caller raw) replies reply told state.told said tells;
-      held = state.held ∙ sym (runs.answered caller raw reply said);
-      apart = state.apart;
-      callers = state.callers;
+      kept = record {
+        held = state.kept.held ∙ sym (runs.answered caller raw reply said);
+        apart = state.kept.apart;
+        callers = state.kept.callers;
+      };
     })
 
 pub call_waits : (old new : BookState) (caller : ℕ) (raw : Raw) (replies : List Told) (tickets : List Flight) (ticket : Flight)
@@ -249,10 +251,12 @@ call_waits old new caller raw replies tickets ticket runs state is small says =
     let own : ticket.caller ≡ caller = ap (λ (f : Flight). f.caller) wait.ticket_is in
     subst (λ (book : BookState). IsReplay book.setup book.history replies (tickets ++ ticket ∷ [])) (sym is) (record {
       told = told_nothing old.setup old.history (call_entry caller raw) replies (Waits wait.order) state.told wait.said_is refl;
-      held = ap (λ ts. ts ++ ticket ∷ []) state.held ∙ ap (λ (f : Flight). runs_of old.setup old.history ++ f ∷ []) wait.ticket_is
-          ∙ sym (runs.begun caller raw wait.order wait.said_is);
-      apart = apart_behind tickets ticket (length old.history) (subst (λ ts. list_all (λ flight. nat_le flight.run (length old.history)) ts ≡ true) (sym state.held) runs.numbered) run state.apart;
-      callers = callers_behind tickets ticket state.callers (subst (λ n. n < 2 ^ 62) (sym own) small);
+      kept = record {
+        held = ap (λ ts. ts ++ ticket ∷ []) state.kept.held ∙ ap (λ (f : Flight). runs_of old.setup old.history ++ f ∷ []) wait.ticket_is
+            ∙ sym (runs.begun caller raw wait.order wait.said_is);
+        apart = apart_behind tickets ticket (length old.history) (subst (λ ts. list_all (λ flight. nat_le flight.run (length old.history)) ts ≡ true) (sym state.kept.held) runs.numbered) run state.kept.apart;
+        callers = callers_behind tickets ticket state.kept.callers (subst (λ n. n < 2 ^ 62) (sym own) small);
+      };
     })
 
 -- ---- a moment
@@ -265,12 +269,20 @@ pub ticked : (old new : BookState) (caller moment : ℕ) (replies : List Told) (
 ticked old new caller moment replies tickets state is said runs =
     subst (λ (book : BookState). IsReplay book.setup book.history replies tickets) (sym is) (record {
       told = told_nothing old.setup old.history (tick_entry caller moment) replies Silence state.told said refl;
-      held = state.held ∙ sym runs;
-      apart = state.apart;
-      callers = state.callers;
+      kept = record { held = state.kept.held ∙ sym runs; apart = state.kept.apart; callers = state.kept.callers };
     })
 
 -- ---- the end of a run
+
+-- an end takes its ticket out
+kept_ended : (setup : Setup) (history : List Entry) (caller run : ℕ) (entry : Entry) (tickets : List Flight) (ticket : Flight) → AreKept setup history tickets
+    → find (is_run caller run) tickets ≡ Some ticket → runs_of setup (history ++ entry ∷ []) ≡ all_but_run ticket (runs_of setup history)
+    → AreKept setup (history ++ entry ∷ []) (without_first (is_run caller run) tickets)
+kept_ended setup history caller run entry tickets ticket kept found runs = record {
+  held = sym (all_but_found caller run tickets ticket kept.apart found) ∙ ap (all_but_run ticket) kept.held ∙ sym runs;
+  apart = are_apart_left (is_run caller run) tickets kept.apart;
+  callers = callers_left (is_run caller run) tickets kept.callers;
+}
 
 ended : (old new : BookState) (caller run : ℕ) (entry : Entry) (replies : List Told) (tickets left : List Flight) (ticket : Flight) (reply : Reply) (told : Told)
     → IsReplay old.setup old.history replies tickets → new ≡ entered old entry → find (is_run caller run) tickets ≡ Some ticket
@@ -282,10 +294,34 @@ ended old new caller run entry replies tickets left ticket reply told state is f
     subst (λ (book : BookState). IsReplay book.setup book.history (replies ++ told ∷ []) left) (sym is)
     (subst (λ ts. IsReplay old.setup (old.history ++ entry ∷ []) (replies ++ told ∷ []) ts) (sym rest) (record {
        told = told_reply old.setup old.history entry replies reply told state.told said tells;
-       held = sym (all_but_found caller run tickets ticket state.apart found) ∙ ap (all_but_run ticket) state.held ∙ sym runs;
-       apart = are_apart_left (is_run caller run) tickets state.apart;
-       callers = callers_left (is_run caller run) tickets state.callers;
+       kept = kept_ended old.setup old.history caller run entry tickets ticket state.kept found runs;
      }))
+
+-- the first of the tickets is found, and the others are left
+itself_passes : (ticket : Flight) → is_run ticket.caller ticket.run ticket ≡ true
+itself_passes ticket = grind (arith, nat_tests)
+
+pub first_found : (ticket : Flight) (tickets : List Flight) → find (is_run ticket.caller ticket.run) (ticket ∷ tickets) ≡ Some ticket
+first_found ticket tickets = rw (itself_passes ticket) refl
+
+pub first_left : (ticket : Flight) (tickets : List Flight) → without_first (is_run ticket.caller ticket.run) (ticket ∷ tickets) ≡ tickets
+first_left ticket tickets = rw (itself_passes ticket) refl
+
+-- the run of the first ticket is given up
+pub first_given_up : (old new : BookState) (why : Why) (ticket : Flight) (tickets : List Flight) → RunsFollow old.setup old.history → AreFound old.setup old.history
+    → AreKept old.setup old.history (ticket ∷ tickets) → new ≡ entered old (park_entry ticket.caller ticket why) → AreKept new.setup new.history tickets
+first_given_up old new why ticket tickets runs finds kept is =
+    let found = first_found ticket tickets in
+    let holds = (finds.found ticket.caller ticket.run ticket (ap (find (is_run ticket.caller ticket.run)) (sym kept.held) ∙ found)).2 in
+    subst (λ (book : BookState). AreKept book.setup book.history tickets) (sym is)
+    (subst (AreKept old.setup (old.history ++ park_entry ticket.caller ticket why ∷ [])) (first_left ticket tickets)
+     (kept_ended old.setup old.history ticket.caller ticket.run (park_entry ticket.caller ticket why) (ticket ∷ tickets) ticket kept found (runs.parked ticket.caller ticket why holds)))
+
+-- what the first ticket may do
+pub first_holds : (setup : Setup) (history : List Entry) (ticket : Flight) (tickets : List Flight) → AreFound setup history
+    → AreKept setup history (ticket ∷ tickets) → Holds setup history ticket.caller ticket
+first_holds setup history ticket tickets finds kept =
+    (finds.found ticket.caller ticket.run ticket (ap (find (is_run ticket.caller ticket.run)) (sym kept.held) ∙ first_found ticket tickets)).2
 
 pub run_finished : (old new : BookState) (caller run : ℕ) (ruling : Ruling) (replies : List Told) (tickets left : List Flight) (ticket : Flight) (reply : Reply) (told : Told)
     → RunsFollow old.setup old.history → Holds old.setup old.history caller ticket → IsReplay old.setup old.history replies tickets

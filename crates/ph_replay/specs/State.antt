@@ -6,13 +6,12 @@ use Rattle.ph_lock.specs.declared.object.Refused.TheVariants as refused
 use Rattle.ph_book.specs.declared.acts.Entry.{Entry}
 use Rattle.ph_book.specs.declared.setup.Setup.{Setup}
 use Rattle.ph_book.specs.History.{past_of}
-use Rattle.ph_book.specs.Laws.{runs_of}
 use Rattle.ph_book.specs.Legal.{IsAllowed}
 use Rattle.ph_book.specs.State.{BookState}
 use Rattle.ph_replay.specs.declared.replayed.Unentered.{Unentered}
 use Rattle.ph_replay.specs.declared.replayed.Unentered.TheVariants as unentered
 use Rattle.ph_replay.specs.declared.told.Told.{Told}
-use Rattle.ph_replay.specs.Tickets.{AreApart, AreOfCallers}
+use Rattle.ph_replay.specs.Tickets.{AreKept}
 use Rattle.ph_replay.specs.Told.{told_of}
 
 -- a book, what was replied, and the tickets in hand
@@ -21,12 +20,10 @@ pub record ReplayState : Type 0 where
   pub replies : List Told
   pub tickets : List Flight
 
--- all replies of the history are told, and the tickets are those of its live runs, in the order in which they began: each of another run, and of a caller that may be one
+-- all replies of the history are told, and the tickets are those of its live runs
 pub record IsReplay (setup : Setup) (history : List Entry) (replies : List Told) (tickets : List Flight) : Type 0 where
   pub told : replies ≡ told_of setup history
-  pub held : tickets ≡ runs_of setup history
-  pub apart : AreApart tickets
-  pub callers : AreOfCallers tickets
+  pub kept : AreKept setup history tickets
 
 -- an entry that wasn't entered: it may not come after this history, or there was no memory
 abbrev pub IsUnentered : Setup → List Entry → Entry → Unentered → Type 0

@@ -24,6 +24,12 @@ abbrev pub AreOfCallers : List Flight → Type 0
 AreOfCallers [] = Unit {0}
 AreOfCallers (ticket ∷ tickets) = (ticket.caller < 2 ^ 62) × AreOfCallers tickets
 
+-- the tickets are those of the live runs of a history, in the order in which they began: each of another run, and of a caller that may be one
+pub record AreKept (setup : Setup) (history : List Entry) (tickets : List Flight) : Type 0 where
+  pub held : tickets ≡ runs_of setup history
+  pub apart : AreApart tickets
+  pub callers : AreOfCallers tickets
+
 -- all but the first that passes
 abbrev pub without_first : (Flight → Bool) → List Flight → List Flight
 without_first passes [] = []

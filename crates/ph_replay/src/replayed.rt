@@ -15,7 +15,7 @@ ghost use Rattle.ph_replay.specs.Told.{told_of};
 use crate::copies::copy_raw;
 use crate::laws::runs_are_found;
 use crate::tickets::take_ticket;
-use crate::told::{Told, told};
+use crate::told::{Told, tell};
 use ph_attempts::Ticket;
 use ph_base::{NoMemory, Ruling, Why};
 use ph_book::{Act, Answer, Book, Deed, Entry, Refused, Setup, history_is_legal, runs_follow};
@@ -128,7 +128,10 @@ impl Replayed {
             return Err(Unentered::Illegal);
         }
         match &entry.deed {
-            Deed::Call(raw) => self.call(entry.caller, copy_raw(alloc, raw)?),
+            Deed::Call(raw) => {
+                let raw = copy_raw(alloc, raw)?;
+                self.call(entry.caller, raw)
+            }
             Deed::Finish(run, ruling) => self.finish(entry.caller, *run, *ruling),
             Deed::Park(run, why) => self.park(entry.caller, *run, *why),
             Deed::Tick(moment) => self.tick(entry.caller, *moment),
@@ -147,7 +150,7 @@ impl Replayed {
         runs_follow(self.book.setup(), self.book.history());
         match self.book.apply(caller, Act::Call(raw)) {
             Ok(Answer::Reply(reply)) => {
-                self.replies.push_reserved(told(place, &reply));
+                self.replies.push_reserved(tell(place, &reply));
                 Ok(())
             }
             Ok(Answer::Wait(ticket)) => {
@@ -180,7 +183,7 @@ impl Replayed {
                 let Answer::Reply(reply) = answer else {
                     unreachable!()
                 };
-                self.replies.push_reserved(told(place, &reply));
+                self.replies.push_reserved(tell(place, &reply));
                 Ok(())
             }
             Err((act, _)) => {
@@ -188,7 +191,7 @@ impl Replayed {
                     unreachable!()
                 };
                 let reply = given_up(&mut self.book, ticket, Why::NoMemory);
-                self.replies.push_reserved(told(place, &reply));
+                self.replies.push_reserved(tell(place, &reply));
                 Err(Unentered::NoMemory)
             }
         }
@@ -208,7 +211,7 @@ impl Replayed {
             return Err(Unentered::Illegal);
         };
         let reply = given_up(&mut self.book, ticket, why);
-        self.replies.push_reserved(told(place, &reply));
+        self.replies.push_reserved(tell(place, &reply));
         Ok(())
     }
 
@@ -276,9 +279,8 @@ fn given_up(book: &mut Book, ticket: Ticket, why: Why) -> Reply
     ensures said { said_to book.old.setup book.old.history (park_entry ticket.caller ticket why) ≡ Replies result }
 {
     let caller = ticket.caller();
-    let Ok(answer) = book.apply(caller, Act::Park(ticket, why)) else {
-        unreachable!()
-    };
+    let entered = book.apply(caller, Act::Park(ticket, why));
+    let Ok(answer) = entered else { unreachable!() };
     let Answer::Reply(reply) = answer else {
         unreachable!()
     };

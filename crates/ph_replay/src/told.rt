@@ -18,7 +18,7 @@ pub struct Told {
 }
 
 /// What is told of the reply to the entry of a place.
-pub(crate) fn told(place: u64, reply: &Reply) -> Told
+pub(crate) fn tell(place: u64, reply: &Reply) -> Told
     ensures { result ∷ [] ≡ told_at place (Replies reply.now) }
 {
     Told {

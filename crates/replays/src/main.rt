@@ -42,8 +42,8 @@ fn run_case(alloc: Global, case: &str) -> Result<String, NoMemory> {
     let text = texts::text_of(alloc, case)?;
     let mut printed = outcome::shown(alloc, texts::name_of(case), text.as_str())?;
     for line in case.lines() {
-        if let Some(change) = line.strip_prefix('~') {
-            printed.push_str(changes::shown(alloc, change, text.as_str())?.as_str())?;
+        if line.starts_with('~') {
+            printed.push_str(changes::shown(alloc, line, text.as_str())?.as_str())?;
         }
     }
     Ok(printed)

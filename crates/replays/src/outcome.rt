@@ -8,12 +8,11 @@ use ph_replay::{Replayed, Told, replay};
 use std::alloc::Global;
 
 /// A text, and how it is read.
+#[derive(Clone, Copy)]
 pub struct Input<'a> {
-    pub bytes: &'a [u8],
-    /// At most so many bytes are read at a time.
-    pub most: usize,
-    /// The read of this number fails.
-    pub fault: Option<u64>,
+    bytes: &'a [u8],
+    most: usize,
+    fault: Option<u64>,
 }
 
 impl<'a> Input<'a> {
@@ -24,6 +23,18 @@ impl<'a> Input<'a> {
             most: 65_536,
             fault: None,
         }
+    }
+
+    /// The same, of which at most so many bytes are read at a time.
+    pub fn in_pieces(mut self, most: usize) -> Self {
+        self.most = most;
+        self
+    }
+
+    /// The same, of which the read of this number fails.
+    pub fn with_fault(mut self, number: usize) -> Self {
+        self.fault = Some(number as u64);
+        self
     }
 }
 
@@ -99,12 +110,9 @@ fn replies(alloc: Global, replayed: &Replayed) -> Result<String, NoMemory> {
 }
 
 fn reply(alloc: Global, told: &Told) -> Result<String, NoMemory> {
-    let Told {
-        place,
-        status,
-        digest,
-    } = told;
-    let digits = hex::encode(alloc, digest)?;
+    let place = told.place;
+    let status = told.status;
+    let digits = hex::encode(alloc, &told.digest)?;
     let digits = digits.as_str();
     Ok(format!(in alloc; "reply {place} {status} {digits}\n")?)
 }
