@@ -1,8 +1,7 @@
 -- A line that is read is the line that was written, and what was written is read again.
 use Rattle.std.proofs.Common.{◌≡◌, ℕ, zero, suc, ◌+◌, ◌^◌, ◌<◌, Bool, true, false, cond, nat_lt, List, [], ◌∷◌, ◌++◌, length, Option, Some, None, refl, sym, ap, subst, ◌∙◌, arith, codes}
 use Rattle.std.specs.Prelude.{IfSome, IfOk, Result, Ok, Err, ◌==◌}
-use Rattle.std.specs.List.{slice_split, list_any, list_all, count_by}
-use Rattle.std.proofs.lemmas.List.Splits.{length-slice_split}
+use Rattle.std.specs.List.{slice_split, list_any, list_all}
 use Rattle.std.specs.Str.{bytes_eq}
 use Rattle.std.specs.Fmt.{decimal}
 use Rattle.std.proofs.lemmas.Bool.Decides.{nat_tests}
@@ -297,18 +296,6 @@ end_found line (Err e) given = tt
 
 pub end_only : (line : List ℕ) (r : Result ℕ Unread) (said : ℕ) → Gives (λ n. n) r (end_in (slice_split is_space line)) → said < 2 ^ 64 → line ≡ end_line said → Gives (λ n. n) r (Some said)
 end_only line r said given small text = subst (Gives (λ n. n) r) (ap (λ bytes. end_in (slice_split is_space bytes)) text ∙ ap end_in (end_split said small) ∙ end_again said small) given
-
--- an entry's line is no last line
-pub entry_no_end : (entry : Entry) (n : ℕ) → FitsEntry entry → n < 2 ^ 64 → entry_line entry ≡ end_line n → ⊥
-entry_no_end entry n fits small same =
-    let fields : entry_fields entry ≡ end_fields n = sym (entry_split entry fits) ∙ ap (slice_split is_space) same ∙ end_split n small in
-    let heads : codes "e" ≡ codes "end" = ap first_word fields in
-    let sizes : ◌≡◌ {A = ℕ} 1 3 = ap length heads in
-    absurd (omega arith)
-  where
-    first_word : List (List ℕ) → List ℕ
-    first_word [] = []
-    first_word (word ∷ words) = word
 
 -- no two setups have one line
 pub setup_lines_differ : (x y : Setup) → FitsSetup x → FitsSetup y → setup_line x ≡ setup_line y → x ≡ y

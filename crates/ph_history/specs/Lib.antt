@@ -2,3 +2,4 @@ pub mod Text
 pub mod Reading
 pub mod Grammar
 pub mod Written
+pub mod Worked

@@ -7,6 +7,7 @@ mod lines;
 mod parts;
 mod reading;
 mod words;
+mod worked;
 mod writing;
 
 pub use faults::HistoryFault;
@@ -14,4 +15,5 @@ pub use laws::{
     text_is_not_bad, text_is_not_cut, text_is_of_one, text_is_written, written_is_text,
 };
 pub use reading::read_history;
+pub use worked::a_create;
 pub use writing::write_history;

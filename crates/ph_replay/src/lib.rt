@@ -7,6 +7,7 @@ mod replayed;
 mod replaying;
 mod tickets;
 mod told;
+mod unentered;
 
 pub use laws::illegal_is_not_legal;
 pub use replayed::Replayed;

@@ -9,54 +9,24 @@ ghost use Rattle.ph_book.specs.Replies.{Replies};
 ghost use Rattle.ph_book.specs.State.{entered};
 ghost use Rattle.ph_book.specs.Tickets.{Holds};
 ghost use Rattle.ph_items.specs.Clocks.{clock_limit};
-ghost use Rattle.ph_replay.specs.State.{IsUnentered, reason};
+ghost use Rattle.ph_replay.specs.Unentered.{IsUnentered};
 ghost use Rattle.ph_replay.specs.Told.{told_of};
 
 use crate::copies::copy_raw;
 use crate::laws::runs_are_found;
 use crate::tickets::take_ticket;
 use crate::told::{Told, tell};
+use crate::unentered::{Unentered, reason_of};
 use ph_attempts::Ticket;
 use ph_base::{NoMemory, Ruling, Why};
-use ph_book::{Act, Answer, Book, Deed, Entry, Refused, Setup, history_is_legal, runs_follow};
+use ph_book::{Act, Answer, Book, Deed, Entry, Setup, history_is_legal, runs_follow};
 use ph_http::{Raw, Reply};
 use ph_items::CLOCK_LIMIT;
-use std::alloc::{AllocError, Global};
+use std::alloc::Global;
 use std::marker::Model;
 
 // The first number that is no caller's.
 const CALLERS: u64 = 4_611_686_018_427_387_904;
-
-/// Why an entry wasn't entered.
-#[derive(Clone, Copy, Debug, PartialEq, Eq)]
-pub(crate) enum Unentered {
-    /// It may not come after the entries before it.
-    Illegal,
-    /// There was no memory.
-    NoMemory,
-}
-
-impl From<NoMemory> for Unentered {
-    ghost use Rattle.std.specs.Prelude.{◌≡◌};
-    ghost use Rattle.ph_replay.specs.declared.replayed.Unentered.TheVariants as unentered;
-
-    ghost from_gives = { λ _ e. e ≡ unentered.NoMemory };
-
-    fn from(_: NoMemory) -> Self {
-        Unentered::NoMemory
-    }
-}
-
-impl From<AllocError> for Unentered {
-    ghost use Rattle.std.specs.Prelude.{◌≡◌};
-    ghost use Rattle.ph_replay.specs.declared.replayed.Unentered.TheVariants as unentered;
-
-    ghost from_gives = { λ _ e. e ≡ unentered.NoMemory };
-
-    fn from(_: AllocError) -> Self {
-        Unentered::NoMemory
-    }
-}
 
 /// A book, what was replied to the entries of its history, and the tickets of the runs that are live in it, in the order
 /// in which they began. It can't be dropped: `end` spends the tickets.
@@ -258,16 +228,6 @@ impl Replayed {
             let _reply = given_up(&mut book, ticket, Why::Pending);
         }
         tickets.destroy_empty();
-    }
-}
-
-// Why an act that was refused isn't entered.
-fn reason_of(refused: Refused) -> Unentered
-    ensures { result ≡ reason refused }
-{
-    match refused {
-        Refused::Full => Unentered::Illegal,
-        Refused::NoMemory => Unentered::NoMemory,
     }
 }
 

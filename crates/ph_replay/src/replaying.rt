@@ -5,7 +5,8 @@ ghost use Rattle.ph_book.specs.Legal.{IsLegal};
 ghost use Rattle.ph_replay.specs.Legal.{IsRefused};
 ghost use Rattle.ph_replay.specs.Told.{told_of};
 
-use crate::replayed::{Replayed, Unentered};
+use crate::replayed::Replayed;
+use crate::unentered::Unentered;
 use ph_base::NoMemory;
 use ph_book::{Entry, Setup};
 use ph_history::HistoryFault;
