@@ -1,4 +1,5 @@
 pub mod Told
+pub mod Lines
 pub mod Tickets
 pub mod Legal
 pub mod State

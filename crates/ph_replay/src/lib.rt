@@ -3,6 +3,7 @@
 
 mod copies;
 mod laws;
+mod lines;
 mod replayed;
 mod replaying;
 mod tickets;
@@ -10,6 +11,7 @@ mod told;
 mod unentered;
 
 pub use laws::illegal_is_not_legal;
+pub use lines::write_replies;
 pub use replayed::Replayed;
 pub use replaying::replay;
 pub use told::Told;

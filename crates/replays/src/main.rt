@@ -23,14 +23,14 @@ fn main(rt: HostRuntime) -> io::Result<()> {
         let cases = fs::read_to_string(&rt, file.as_str())?;
         for case in cases.as_str().split("\n== ").skip(1) {
             let printed = printed(rt.alloc(), case)?;
-            rt.stdout().write_all(printed.as_bytes())?;
+            rt.stdout().write_all(printed.as_slice())?;
         }
     }
     Ok(())
 }
 
 // What is printed for a case.
-fn printed(alloc: Global, case: &str) -> Result<String, AllocError> {
+fn printed(alloc: Global, case: &str) -> Result<Vec<u8>, AllocError> {
     match run_case(alloc, case) {
         Ok(printed) => Ok(printed),
         Err(NoMemory) => Err(AllocError),
@@ -38,12 +38,12 @@ fn printed(alloc: Global, case: &str) -> Result<String, AllocError> {
 }
 
 // The text of the case, and then each change of it.
-fn run_case(alloc: Global, case: &str) -> Result<String, NoMemory> {
+fn run_case(alloc: Global, case: &str) -> Result<Vec<u8>, NoMemory> {
     let text = texts::text_of(alloc, case)?;
     let mut printed = outcome::shown(alloc, texts::name_of(case), text.as_str())?;
     for line in case.lines() {
         if line.starts_with('~') {
-            printed.push_str(changes::shown(alloc, line, text.as_str())?.as_str())?;
+            printed.extend_from_slice(changes::shown(alloc, line, text.as_str())?.as_bytes())?;
         }
     }
     Ok(printed)

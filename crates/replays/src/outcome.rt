@@ -4,7 +4,7 @@ use ph_base::NoMemory;
 use ph_book::{Entry, Setup};
 use ph_history::{HistoryFault, read_history, write_history};
 use ph_io::{MemSink, MemSource};
-use ph_replay::{Replayed, Told, replay};
+use ph_replay::{Replayed, replay, write_replies};
 use std::alloc::Global;
 
 /// A text, and how it is read.
@@ -86,35 +86,25 @@ fn again(alloc: Global, setup: &Setup, entries: &[Entry], text: &[u8]) -> Result
 }
 
 /// What comes of the text of a case: its name, the line, and each reply that was made anew.
-pub fn shown(alloc: Global, name: &str, text: &str) -> Result<String, NoMemory> {
+pub fn shown(alloc: Global, name: &str, text: &str) -> Result<Vec<u8>, NoMemory> {
     let input = Input::of(text.as_bytes());
     let line = line(alloc, &input)?;
-    let mut shown = format!(in alloc; "{name} | {line}\n")?;
+    let mut shown = format!(in alloc; "{name} | {line}\n")?.into_bytes();
     if let Ok((setup, entries)) = read(alloc, &input)? {
         if let Ok(replayed) = replay(alloc, setup, entries.as_slice()) {
             let lines = replies(alloc, &replayed);
             replayed.end();
-            shown.push_str(lines?.as_str())?;
+            shown.extend_from_slice(lines?.as_slice())?;
         }
     }
     Ok(shown)
 }
 
 // A line for each reply.
-fn replies(alloc: Global, replayed: &Replayed) -> Result<String, NoMemory> {
-    let mut lines = String::new(alloc);
-    for told in replayed.replies() {
-        lines.push_str(reply(alloc, told)?.as_str())?;
-    }
-    Ok(lines)
-}
-
-fn reply(alloc: Global, told: &Told) -> Result<String, NoMemory> {
-    let place = told.place;
-    let status = told.status;
-    let digits = hex::encode(alloc, &told.digest)?;
-    let digits = digits.as_str();
-    Ok(format!(in alloc; "reply {place} {status} {digits}\n")?)
+fn replies(alloc: Global, replayed: &Replayed) -> Result<Vec<u8>, NoMemory> {
+    let mut sink = MemSink::new(alloc, 65_536, Vec::new(alloc));
+    let _written = write_replies(replayed.replies(), &mut sink);
+    Ok(Vec::from_slice(alloc, sink.bytes())?)
 }
 
 // The name of a fault.
