@@ -7,10 +7,10 @@ use Rattle.std.proofs.lemmas.List.{append-nil}
 use Rattle.ph_base.specs.declared.acquirer.Ruling.{Ruling}
 use Rattle.ph_base.specs.declared.acquirer.Why.{Why}
 use Rattle.ph_items.specs.declared.orders.Order.{Order}
-use Rattle.ph_attempts.specs.Attempts.{is_same_run}
+use Rattle.ph_attempts.specs.Attempts.{is_same_run, live_in}
 use Rattle.ph_attempts.specs.declared.flights.Flight.{Flight}
 use Rattle.ph_doings.specs.Doings.{Doing}
-use Rattle.ph_doings.specs.Kept.{is_run}
+use Rattle.ph_doings.specs.Kept.{attempts_after, is_run}
 use Rattle.ph_doings.specs.Runs.{Run, NoRun, Flies, live_run}
 use Rattle.ph_doings.proofs.FoundRuns.{runs_are_found}
 use Rattle.ph_doings.proofs.KeptLists.{attempts_are_unsettled}
@@ -132,39 +132,39 @@ apart_found first passes [] ticket apart found = absurd (cc)
 apart_found first passes (other ∷ tickets) ticket apart found = at (passes other) refl found (apart_found first passes tickets ticket apart.1)
   where
     at : (t : Bool) → passes other ≡ t → find passes (other ∷ tickets) ≡ Some ticket → (find passes tickets ≡ Some ticket → first.run ≢ ticket.run) → first.run ≢ ticket.run
-    at true e found more = let same : Some other ≡ Some ticket = rw e at found in subst (λ (f : Flight). first.run ≢ f.run) cc apart.0
+    at true e found more = let same : Some other ≡ Some ticket = rw e at found in let one : other ≡ ticket = cc in subst (λ (f : Flight). first.run ≢ f.run) one apart.0
     at false e found more = more (rw e at found)
 
 apart_left : (first : Flight) (passes : Flight → Bool) (tickets : List Flight) → IsApart first tickets → IsApart first (without_first passes tickets)
 apart_left first passes [] apart = tt
-apart_left first passes (other ∷ tickets) apart = at (passes other) refl
+apart_left first passes (other ∷ tickets) apart = at (passes other) (apart_left first passes tickets apart.1)
   where
-    at : (t : Bool) → passes other ≡ t → IsApart first (cond t tickets (other ∷ without_first passes tickets))
-    at true e = apart.1
-    at false e = (apart.0, apart_left first passes tickets apart.1)
+    at : (t : Bool) → IsApart first (without_first passes tickets) → IsApart first (cond t tickets (other ∷ without_first passes tickets))
+    at true more = apart.1
+    at false more = (apart.0, more)
 
 are_apart_left : (passes : Flight → Bool) (tickets : List Flight) → AreApart tickets → AreApart (without_first passes tickets)
 are_apart_left passes [] apart = tt
-are_apart_left passes (ticket ∷ tickets) apart = at (passes ticket)
+are_apart_left passes (ticket ∷ tickets) apart = at (passes ticket) (are_apart_left passes tickets apart.1)
   where
-    at : (t : Bool) → AreApart (cond t tickets (ticket ∷ without_first passes tickets))
-    at true = apart.1
-    at false = (apart_left ticket passes tickets apart.0, are_apart_left passes tickets apart.1)
+    at : (t : Bool) → AreApart (without_first passes tickets) → AreApart (cond t tickets (ticket ∷ without_first passes tickets))
+    at true more = apart.1
+    at false more = (apart_left ticket passes tickets apart.0, more)
 
 callers_left : (passes : Flight → Bool) (tickets : List Flight) → AreOfCallers tickets → AreOfCallers (without_first passes tickets)
 callers_left passes [] small = tt
-callers_left passes (ticket ∷ tickets) small = at (passes ticket)
+callers_left passes (ticket ∷ tickets) small = at (passes ticket) (callers_left passes tickets small.1)
   where
-    at : (t : Bool) → AreOfCallers (cond t tickets (ticket ∷ without_first passes tickets))
-    at true = small.1
-    at false = (small.0, callers_left passes tickets small.1)
+    at : (t : Bool) → AreOfCallers (without_first passes tickets) → AreOfCallers (cond t tickets (ticket ∷ without_first passes tickets))
+    at true more = small.1
+    at false more = (small.0, more)
 
 caller_found : (passes : Flight → Bool) (tickets : List Flight) (ticket : Flight) → AreOfCallers tickets → find passes tickets ≡ Some ticket → ticket.caller < 2 ^ 62
 caller_found passes [] ticket small found = absurd (cc)
 caller_found passes (other ∷ tickets) ticket small found = at (passes other) refl found (caller_found passes tickets ticket small.1)
   where
     at : (t : Bool) → passes other ≡ t → find passes (other ∷ tickets) ≡ Some ticket → (find passes tickets ≡ Some ticket → ticket.caller < 2 ^ 62) → ticket.caller < 2 ^ 62
-    at true e found more = let same : Some other ≡ Some ticket = rw e at found in subst (λ (f : Flight). f.caller < 2 ^ 62) cc small.0
+    at true e found more = let same : Some other ≡ Some ticket = rw e at found in let one : other ≡ ticket = cc in subst (λ (f : Flight). f.caller < 2 ^ 62) one small.0
     at false e found more = more (rw e at found)
 
 -- tickets that are apart from a run are all but it
@@ -219,7 +219,7 @@ are_found setup history few legal =
           own_none past caller run (live_run past run)
           (λ flight is own.
            let there = finds.finds run flight is in
-           let never : None ≡ Some flight = sym none ∙ ap (find (is_run caller run)) (sym kept.live) ∙ ap (λ n. find (is_run n run) _) (sym own) ∙ there in
+           let never : None ≡ Some flight = sym none ∙ ap (find (is_run caller run)) (sym kept.live) ∙ ap (λ n. find (is_run n run) (live_in (attempts_after past))) (sym own) ∙ there in
            absurd (cc));
     }
 
