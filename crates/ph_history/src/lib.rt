@@ -2,6 +2,7 @@
 #![tactic(auto)]
 
 mod faults;
+mod fits;
 mod laws;
 mod lines;
 mod parts;
@@ -11,6 +12,7 @@ mod worked;
 mod writing;
 
 pub use faults::HistoryFault;
+pub use fits::{history_fits, what_is_written_is_read};
 pub use laws::{
     text_is_not_bad, text_is_not_cut, text_is_of_one, text_is_written, written_is_text,
 };
