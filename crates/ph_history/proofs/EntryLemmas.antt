@@ -82,9 +82,9 @@ raw_takes words x e =
     bind_then (octets_at k.1) _ x e (λ a ea e.
     bind_then (flag_at a.1) _ x e (λ c ec e.
     bind_then (bytes_at c.1) _ x e (λ b eb e.
-        let made : Raw = record { method = m.0; path = p.0; query = q.0; auth = u.0; key = k.0; account = a.0; body = b.0; close = c.0 } in
-        subst (Took raw_fields FitsRaw words) (some_is (made, b.1) x e)
-        (raw_text made (bytes_field words m em) (bytes_field m.1 p ep) (octets_field p.1 q eq) (octets_field q.1 u eu) (octets_field u.1 k ek) (octets_field k.1 a ea) (flag_field a.1 c ec) (bytes_field c.1 b eb))))))))))
+    let made : Raw = record { method = m.0; path = p.0; query = q.0; auth = u.0; key = k.0; account = a.0; body = b.0; close = c.0 } in
+    subst (Took raw_fields FitsRaw words) (some_is (made, b.1) x e)
+    (raw_text made (bytes_field words m em) (bytes_field m.1 p ep) (octets_field p.1 q eq) (octets_field q.1 u eu) (octets_field u.1 k ek) (octets_field k.1 a ea) (flag_field a.1 c ec) (bytes_field c.1 b eb))))))))))
 
 raw_again : (raw : Raw) (rest : List (List ℕ)) → FitsRaw raw → raw_at (raw_fields raw ++ rest) ≡ Some (raw, rest)
 unfolding raw_at
@@ -164,8 +164,8 @@ entry_takes words entry e =
     let left = nothing_left (record { caller = b.0.0; deed = d.0.0 }) entry d.0.1 d.2 in
     let made : Entry = record { caller = b.0.0; deed = d.0.0 } in
     let fields : words ≡ entry_fields made =
-        field_takes words a.0 a.1 ∙ ap (λ word. word ∷ a.0.1) (same_bytes a.0.0 (codes "e") g.0)
-        ∙ behind (tb.0 ∙ behind (field_takes b.0.1 k.0 k.1 ∙ td.0 ∙ ap (λ rest. deed_fields d.0.0 ++ rest) left.0 ∙ append-nil (deed_fields d.0.0))) in
+    field_takes words a.0 a.1 ∙ ap (λ word. word ∷ a.0.1) (same_bytes a.0.0 (codes "e") g.0)
+    ∙ behind (tb.0 ∙ behind (field_takes b.0.1 k.0 k.1 ∙ td.0 ∙ ap (λ rest. deed_fields d.0.0 ++ rest) left.0 ∙ append-nil (deed_fields d.0.0))) in
     subst (λ (y : Entry). (words ≡ entry_fields y) × FitsEntry y) left.1 (fields, record { caller = tb.1; deed = td.1 })
 
 entry_again : (entry : Entry) → FitsEntry entry → entry_in (entry_fields entry) ≡ Some entry
@@ -232,17 +232,18 @@ setup_takes words s e =
     bind_then (number_at k.1) _ s e (λ o eo e.
     bind_then (number_at o.1) _ s e (λ n en e.
     bind_then (number_at n.1) _ s e (λ w ew e.
-        let small = guarded (nat_lt n.0 (2 ^ 32)) _ s e in
-        let made : Setup = record { key = k.0; opened = o.0; entries = n.0; weight = w.0 } in
-        let left = nothing_left made s w.1 small.1 in
-        let tk = bytes_field a.1 k ek in
-        let to = number_field k.1 o eo in
-        let tn = number_field o.1 n en in
-        let tw = number_field n.1 w ew in
-        subst (λ (y : Setup). (words ≡ setup_fields y) × FitsSetup y) left.1
-        (field_takes words a ea ∙ ap (λ word. word ∷ a.1) (same_bytes a.0 (codes "setup") g.0)
-         ∙ behind (tk.0 ∙ behind (to.0 ∙ behind (tn.0 ∙ behind (tw.0 ∙ behind left.0)))),
-         record { key = tk.1; opened = to.1; entries = ltb-true n.0 (2 ^ 32) small.0; weight = tw.1 }))))))
+    let small = guarded (nat_lt n.0 (2 ^ 32)) _ s e in
+    let made : Setup = record { key = k.0; opened = o.0; entries = n.0; weight = w.0 } in
+    let left = nothing_left made s w.1 small.1 in
+    let tk = bytes_field a.1 k ek in
+    let to = number_field k.1 o eo in
+    let tn = number_field o.1 n en in
+    let tw = number_field n.1 w ew in
+    subst (λ (y : Setup). (words ≡ setup_fields y) × FitsSetup y) left.1 (
+      field_takes words a ea ∙ ap (λ word. word ∷ a.1) (same_bytes a.0 (codes "setup") g.0)
+          ∙ behind (tk.0 ∙ behind (to.0 ∙ behind (tn.0 ∙ behind (tw.0 ∙ behind left.0)))),
+      record { key = tk.1; opened = to.1; entries = ltb-true n.0 (2 ^ 32) small.0; weight = tw.1 },
+    ))))))
 
 setup_again : (s : Setup) → FitsSetup s → setup_in (setup_fields s) ≡ Some s
 unfolding setup_in
@@ -259,9 +260,9 @@ end_takes words n e =
     bind_then (field_at words) _ n e (λ a ea e.
     let g = guarded (bytes_eq a.0 (codes "end")) _ n e in
     bind_then (number_at a.1) _ n g.1 (λ c ec e.
-        let left = nothing_left c.0 n c.1 e in
-        subst (λ m. words ≡ end_fields m) left.1
-        (field_takes words a ea ∙ ap (λ word. word ∷ a.1) (same_bytes a.0 (codes "end") g.0) ∙ behind ((number_field a.1 c ec).0 ∙ behind left.0))))
+    let left = nothing_left c.0 n c.1 e in
+    subst (λ m. words ≡ end_fields m) left.1
+    (field_takes words a ea ∙ ap (λ word. word ∷ a.1) (same_bytes a.0 (codes "end") g.0) ∙ behind ((number_field a.1 c ec).0 ∙ behind left.0))))
 
 end_again : (n : ℕ) → n < 2 ^ 64 → end_in (end_fields n) ≡ Some n
 unfolding end_in

@@ -68,7 +68,7 @@ pub open_refused : (setup : Setup) (entries : List Entry) (line : List ℕ) → 
     → CanBegin ((header_line ∷ setup_line setup ∷ map entry_line entries) ++ line ∷ []) → ⊥
 open_refused setup entries line no_entry no_last begins =
     at (next_is entries begins.history.entries line begins.more (length begins.history.entries) begins.fits.entries
-        (sym (append_assoc (map entry_line entries) (line ∷ []) begins.more) ∙ tails (tails begins.text)))
+    (sym (append_assoc (map entry_line entries) (line ∷ []) begins.more) ∙ tails (tails begins.text)))
   where
     at : IsEntrys line ⊎ ((line ≡ end_line (length begins.history.entries)) × (length begins.history.entries ≡ length entries) × (begins.more ≡ [])) → ⊥
     at (inl found) = no_entry found.0 found.1 found.2
@@ -78,7 +78,7 @@ pub whole_refused : (history : History) (line : List ℕ) → CanBegin (history_
 whole_refused history line begins =
     let entries = history.entries in
     at (next_is entries begins.history.entries (end_line (length entries)) (line ∷ begins.more) (length begins.history.entries) begins.fits.entries
-        (sym (append_assoc (map entry_line entries) (end_line (length entries) ∷ []) (line ∷ begins.more)) ∙ sym (append_assoc (map entry_line entries ++ end_line (length entries) ∷ []) (line ∷ []) begins.more) ∙ tails (tails begins.text)))
+    (sym (append_assoc (map entry_line entries) (end_line (length entries) ∷ []) (line ∷ begins.more)) ∙ sym (append_assoc (map entry_line entries ++ end_line (length entries) ∷ []) (line ∷ []) begins.more) ∙ tails (tails begins.text)))
   where
     at : IsEntrys (end_line (length history.entries)) ⊎ ((end_line (length history.entries) ≡ end_line (length begins.history.entries)) × (length begins.history.entries ≡ length history.entries) × (line ∷ begins.more ≡ [])) → ⊥
     at (inl found) = entry_no_end found.0 (length history.entries) (sym found.2)

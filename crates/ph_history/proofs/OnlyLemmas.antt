@@ -111,6 +111,7 @@ reads_only (Err (fault.BadLine at)) old new all history reads told text = cases 
     front (Some rest) same =
         let whole : all ≡ reads.bytes ++ rest = some_is all (reads.bytes ++ rest) same in
         text_not_bad all history at text (subst (λ b. IsBadAt b at) (sym whole) (bad_more reads.bytes rest at reads.says.1))
+
     cases : Moves old new reads.bytes ⊎ EndsAfter old new reads.bytes → ⊥
     cases (inl moved) = front new.left (sym told ∙ moved.left)
     cases (inr ended) = text_not_bad all history at text (subst (λ b. IsBadAt b at) (sym (ends_after_all ended told)) reads.says.1)

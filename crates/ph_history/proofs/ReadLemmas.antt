@@ -84,14 +84,17 @@ stops_memory s0 s1 = record { bytes = []; says = tt }
 cut : {u v : List ℕ} {p : Part} {s0 s1 s2 : SourceState} {at : ℕ} → Begun u p s0 s1 at → Gets u v got.End s1 s2 → (AreWhole (part_lines p) → ⊥) → Reads (Err fault.Cut) s0 s2
 cut {u} {p = p} b g open_part = record {
   bytes = b.bytes ++ g.bytes;
-  says = (ends_later b.moved g.read, record {
-    lines = part_lines p;
-    rest = u ++ g.bytes;
-    leads = leads_more b.bytes (part_lines p) u g.bytes b.leads;
-    begins = part_begins p b.fits;
-    open_end = g.item.0;
-    not_whole = open_part;
-  });
+  says = (
+    ends_later b.moved g.read,
+    record {
+      lines = part_lines p;
+      rest = u ++ g.bytes;
+      leads = leads_more b.bytes (part_lines p) u g.bytes b.leads;
+      begins = part_begins p b.fits;
+      open_end = g.item.0;
+      not_whole = open_part;
+    },
+  );
 }
 
 pub stops_end : {u v : List ℕ} (p : Part) {s0 s1 s2 : SourceState} {at : ℕ} (r : Result (Setup × Vec Entry) HistoryFault) → Begun u p s0 s1 at → Gets u v got.End s1 s2 → EndIs p v at r → Reads r s0 s2
@@ -101,10 +104,13 @@ stops_end (part.Open setup entries) {s0} {s2 = s2} r b g e = subst (λ x. Reads 
 stops_end {u} {v} (part.Whole setup entries) {s0} {s2 = s2} (Ok read) b g e =
     subst (λ (x : Setup × Vec Entry). Reads (Ok x) s0 s2) (sym e.1) (record {
       bytes = b.bytes ++ g.bytes;
-      says = (ends_later b.moved g.read, record {
-        leads = subst (Leads (b.bytes ++ g.bytes) (part_lines (part.Whole setup entries))) (sym g.item.1 ∙ e.0) (leads_more b.bytes (part_lines (part.Whole setup entries)) u g.bytes b.leads);
-        fits = record { setup = b.fits.0; entries = b.fits.1 };
-      });
+      says = (
+        ends_later b.moved g.read,
+        record {
+          leads = subst (Leads (b.bytes ++ g.bytes) (part_lines (part.Whole setup entries))) (sym g.item.1 ∙ e.0) (leads_more b.bytes (part_lines (part.Whole setup entries)) u g.bytes b.leads);
+          fits = record { setup = b.fits.0; entries = b.fits.1 };
+        },
+      );
     })
 stops_end {u} {v} (part.Whole setup entries) {s0} {s2 = s2} (Err why) b g e =
     subst (λ x. Reads (Err x) s0 s2) (sym e.1) (record {

@@ -47,12 +47,12 @@ written_is setup entries = sym (
     flat_map-cons with_lf header_line (setup_line setup ∷ (map entry_line entries ++ end_line (length entries) ∷ []))
     ∙ ap (λ text. text ++ text_of (setup_line setup ∷ (map entry_line entries ++ end_line (length entries) ∷ []))) header_is
     ∙ ap (λ text. line_text header_fields ++ text) (
-        flat_map-cons with_lf (setup_line setup) (map entry_line entries ++ end_line (length entries) ∷ [])
-        ∙ ap (λ text. text ++ text_of (map entry_line entries ++ end_line (length entries) ∷ [])) (setup_is setup)
-        ∙ ap (λ text. line_text (setup_fields setup) ++ text) (
-            flat_map-append with_lf (map entry_line entries) (end_line (length entries) ∷ [])
-            ∙ ap (λ text. text ++ text_of (end_line (length entries) ∷ [])) (entries_are entries)
-            ∙ ap (λ text. entries_text entries ++ text) (end_is (length entries)))))
+    flat_map-cons with_lf (setup_line setup) (map entry_line entries ++ end_line (length entries) ∷ [])
+    ∙ ap (λ text. text ++ text_of (map entry_line entries ++ end_line (length entries) ∷ [])) (setup_is setup)
+    ∙ ap (λ text. line_text (setup_fields setup) ++ text) (
+    flat_map-append with_lf (map entry_line entries) (end_line (length entries) ∷ [])
+    ∙ ap (λ text. text ++ text_of (end_line (length entries) ∷ [])) (entries_are entries)
+    ∙ ap (λ text. entries_text entries ++ text) (end_is (length entries)))))
 
 -- ---- four parts
 
@@ -70,4 +70,3 @@ in_fourth {s0} {s4 = s4} a b c d first second third front = subst (TakesFront s0
 
 pub all_four : {s0 s1 s2 s3 s4 : SinkState} (a b c d : List ℕ) → Takes s0 s1 a → Takes s1 s2 b → Takes s2 s3 c → Takes s3 s4 d → Takes s0 s4 (a ++ (b ++ (c ++ d)))
 all_four a b c d first second third fourth = both (takes_twice (takes_twice first second) third) fourth (four a b c d)
-

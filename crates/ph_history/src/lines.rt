@@ -77,7 +77,11 @@ fn tick(rest: Option<&[u8]>) -> Result<(Deed, Option<&[u8]>), Unread>
 
 // The deed of this kind.
 #[tactic(auto, unfolding(crate::specs::Reading::deed_by))]
-fn deed<'a>(alloc: Global, kind: &[u8], rest: Option<&'a [u8]>) -> Result<(Deed, Option<&'a [u8]>), Unread>
+fn deed<'a>(
+    alloc: Global,
+    kind: &[u8],
+    rest: Option<&'a [u8]>,
+) -> Result<(Deed, Option<&'a [u8]>), Unread>
     ensures { Gives (λ x. (x.0, fields_left (option_copied x.1))) result (deed_by kind.now (fields_left (option_copied rest.entry))) }
 {
     if kind == b"call".as_slice() {

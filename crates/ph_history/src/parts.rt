@@ -46,7 +46,12 @@ pub(crate) fn add_line(alloc: Global, part: Part, line: &[u8]) -> Result<Part, U
 }
 
 // A line behind the setup's: another entry's, or the last, whose count has to be that of the entries.
-fn add_entry(alloc: Global, setup: Setup, mut entries: Vec<Entry>, line: &[u8]) -> Result<Part, Unread>
+fn add_entry(
+    alloc: Global,
+    setup: Setup,
+    mut entries: Vec<Entry>,
+    line: &[u8],
+) -> Result<Part, Unread>
     ensures lines { FitsPart (part.Open setup entries) → IfOk result (λ more. part_lines more ≡ part_lines (part.Open setup entries) ++ line.now ∷ []) }
     ensures fits { FitsPart (part.Open setup entries) → IfOk result FitsPart }
     ensures refused { FitsPart (part.Open setup entries) → result ≡ Err unread.Form → CanBegin (part_lines (part.Open setup entries) ++ line.now ∷ []) → ⊥ }

@@ -16,7 +16,10 @@ use std::alloc::Global;
 /// than 300,000 bytes. Of other bytes it answers the first line outside the form, or that they are cut before the last
 /// line's LF. Lines count from 1; bytes behind the last line's LF are outside the form at the line that they begin. It
 /// may instead answer that a read failed, where one did, or that there was no memory, and never `Illegal`.
-pub fn read_history<S: Source>(alloc: Global, source: &mut S) -> Result<(Setup, Vec<Entry>), HistoryFault>
+pub fn read_history<S: Source>(
+    alloc: Global,
+    source: &mut S,
+) -> Result<(Setup, Vec<Entry>), HistoryFault>
     ensures reads { Reads result (S.source source.old) (S.source source.new) }
     ensures only { (bytes : List ℕ) (history : History) → (S.source source.old).left ≡ Some bytes → IsText bytes history → Finds history result }
 {

@@ -96,7 +96,11 @@ fn write_parts<K: Sink>(setup: &Setup, entries: &[Entry], sink: &mut K) -> Resul
 
 /// Writes the text of a setup and of entries, and takes no memory. Where a write fails, a front of the text was
 /// written.
-pub fn write_history<K: Sink>(setup: &Setup, entries: &[Entry], sink: &mut K) -> Result<(), WriteFailed>
+pub fn write_history<K: Sink>(
+    setup: &Setup,
+    entries: &[Entry],
+    sink: &mut K,
+) -> Result<(), WriteFailed>
     ensures all { OnOk result (Takes (K.sink sink.old) (K.sink sink.new) (history_text (told_by setup.now entries.now))) }
     ensures front { OnErr result (TakesFront (K.sink sink.old) (K.sink sink.new) (history_text (told_by setup.now entries.now))) }
 {

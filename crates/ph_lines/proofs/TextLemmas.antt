@@ -23,9 +23,11 @@ ArePlain (line ∷ lines) = (list_any is_lf line ≡ false) × ArePlain lines
 -- short lines without LFs are the lines of their text
 pub text_leads : (lines : List (List ℕ)) → ArePlain lines → AreShort lines → Leads (text_of lines) lines []
 text_leads [] plain short = refl
-text_leads (line ∷ lines) plain short =
-    (text_of lines, ap first (flat_map-cons with_lf line lines ∙ append_assoc line (10 ∷ []) (text_of lines)) ∙ line_has line (text_of lines) plain.0 short.0,
-     text_leads lines plain.1 short.1)
+text_leads (line ∷ lines) plain short = (
+  text_of lines,
+  ap first (flat_map-cons with_lf line lines ∙ append_assoc line (10 ∷ []) (text_of lines)) ∙ line_has line (text_of lines) plain.0 short.0,
+  text_leads lines plain.1 short.1,
+)
 
 -- the lines of a front of some bytes
 pub leads_more : (bytes : List ℕ) (lines : List (List ℕ)) (rest more : List ℕ) → Leads bytes lines rest → Leads (bytes ++ more) lines (rest ++ more)

@@ -81,7 +81,11 @@ fn write_fields<K: Sink>(sink: &mut K, fields: &[Field<'_>]) -> Result<(), Write
 
 /// Writes a line of a first word and these fields behind it, with its LF. It takes no memory. Where a write fails, a
 /// front of the line was written.
-pub fn write_line<K: Sink>(sink: &mut K, word: &[u8], fields: &[Field<'_>]) -> Result<(), WriteFailed>
+pub fn write_line<K: Sink>(
+    sink: &mut K,
+    word: &[u8],
+    fields: &[Field<'_>],
+) -> Result<(), WriteFailed>
     ensures all { OnOk result (Takes (K.sink sink.old) (K.sink sink.new) (line_text (word.now ∷ map field_text fields.now))) }
     ensures front { OnErr result (TakesFront (K.sink sink.old) (K.sink sink.new) (line_text (word.now ∷ map field_text fields.now))) }
 {

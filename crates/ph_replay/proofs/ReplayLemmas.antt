@@ -218,9 +218,9 @@ are_found setup history few legal =
       others = λ caller run none.
           own_none past caller run (live_run past run)
           (λ flight is own.
-           let there = finds.finds run flight is in
-           let never : None ≡ Some flight = sym none ∙ ap (find (is_run caller run)) (sym kept.live) ∙ ap (λ n. find (is_run n run) (live_in (attempts_after past))) (sym own) ∙ there in
-           absurd (cc));
+          let there = finds.finds run flight is in
+          let never : None ≡ Some flight = sym none ∙ ap (find (is_run caller run)) (sym kept.live) ∙ ap (λ n. find (is_run n run) (live_in (attempts_after past))) (sym own) ∙ there in
+          absurd (cc));
     }
 
 -- ---- a call
@@ -293,9 +293,9 @@ ended : (old new : BookState) (caller run : ℕ) (entry : Entry) (replies : List
 ended old new caller run entry replies tickets left ticket reply told state is found rest said tells runs =
     subst (λ (book : BookState). IsReplay book.setup book.history (replies ++ told ∷ []) left) (sym is)
     (subst (λ ts. IsReplay old.setup (old.history ++ entry ∷ []) (replies ++ told ∷ []) ts) (sym rest) (record {
-       told = told_reply old.setup old.history entry replies reply told state.told said tells;
-       kept = kept_ended old.setup old.history caller run entry tickets ticket state.kept found runs;
-     }))
+      told = told_reply old.setup old.history entry replies reply told state.told said tells;
+      kept = kept_ended old.setup old.history caller run entry tickets ticket state.kept found runs;
+    }))
 
 -- the first of the tickets is found, and the others are left
 itself_passes : (ticket : Flight) → is_run ticket.caller ticket.run ticket ≡ true
@@ -315,7 +315,7 @@ first_given_up old new why ticket tickets runs finds kept is =
     let holds = (finds.found ticket.caller ticket.run ticket (ap (find (is_run ticket.caller ticket.run)) (sym kept.held) ∙ found)).2 in
     subst (λ (book : BookState). AreKept book.setup book.history tickets) (sym is)
     (subst (AreKept old.setup (old.history ++ park_entry ticket.caller ticket why ∷ [])) (first_left ticket tickets)
-     (kept_ended old.setup old.history ticket.caller ticket.run (park_entry ticket.caller ticket why) (ticket ∷ tickets) ticket kept found (runs.parked ticket.caller ticket why holds)))
+    (kept_ended old.setup old.history ticket.caller ticket.run (park_entry ticket.caller ticket why) (ticket ∷ tickets) ticket kept found (runs.parked ticket.caller ticket why holds)))
 
 -- what the first ticket may do
 pub first_holds : (setup : Setup) (history : List Entry) (ticket : Flight) (tickets : List Flight) → AreFound setup history

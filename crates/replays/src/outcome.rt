@@ -39,7 +39,10 @@ impl<'a> Input<'a> {
 }
 
 // What was read of an input.
-fn read(alloc: Global, input: &Input<'_>) -> Result<Result<(Setup, Vec<Entry>), HistoryFault>, NoMemory> {
+fn read(
+    alloc: Global,
+    input: &Input<'_>,
+) -> Result<Result<(Setup, Vec<Entry>), HistoryFault>, NoMemory> {
     let mut failing = Vec::new(alloc);
     if let Some(number) = input.fault {
         failing.push(number)?;
@@ -68,14 +71,24 @@ pub fn line(alloc: Global, input: &Input<'_>) -> Result<String, NoMemory> {
     }
 }
 
-fn counted(alloc: Global, count: usize, again: &str, replayed: &Replayed) -> Result<String, NoMemory> {
+fn counted(
+    alloc: Global,
+    count: usize,
+    again: &str,
+    replayed: &Replayed,
+) -> Result<String, NoMemory> {
     let replies = replayed.replies().len();
     let live = replayed.tickets().len();
     Ok(format!(in alloc; "entries {count}, {again}, replies {replies}, live {live}")?)
 }
 
 // Whether a history is written as this text.
-fn again(alloc: Global, setup: &Setup, entries: &[Entry], text: &[u8]) -> Result<&'static str, NoMemory> {
+fn again(
+    alloc: Global,
+    setup: &Setup,
+    entries: &[Entry],
+    text: &[u8],
+) -> Result<&'static str, NoMemory> {
     let mut sink = MemSink::new(alloc, 65_536, Vec::new(alloc));
     let written = write_history(setup, entries, &mut sink);
     if written.is_ok() && sink.bytes() == text {
