@@ -3,7 +3,7 @@
 use ph_base::NoMemory;
 use ph_book::{Entry, Setup};
 use ph_history::{HistoryFault, read_history, write_history};
-use ph_io::{MemSink, MemSource};
+use ph_io::{MemSink, MemSource, WriteFailed};
 use ph_replay::{Replayed, replay, write_replies};
 use std::alloc::Global;
 
@@ -52,23 +52,50 @@ fn read(
     Ok(read_history(alloc, &mut source))
 }
 
-/// What comes of a text, in one line: how many entries were read and whether they are written as the same text, how many
-/// replies were made anew, and how many runs are live; or the fault.
-pub fn line(alloc: Global, input: &Input<'_>) -> Result<String, NoMemory> {
+/// What comes of a text.
+#[derive(Drop)]
+pub struct Outcome {
+    /// How many entries were read and whether they are written as the same text, how many replies were made anew, and
+    /// how many runs are live; or the fault.
+    pub line: String,
+    /// A line for each reply.
+    pub replies: Vec<u8>,
+}
+
+/// What comes of a text: its history is read, written again and entered anew.
+pub fn outcome_of(alloc: Global, input: &Input<'_>) -> Result<Outcome, NoMemory> {
     let (setup, entries) = match read(alloc, input)? {
         Ok(history) => history,
-        Err(fault) => return named(alloc, fault),
+        Err(fault) => return ended(alloc, fault),
     };
     let again = again(alloc, &setup, entries.as_slice(), input.bytes)?;
     let count = entries.len();
     match replay(alloc, setup, entries.as_slice()) {
         Ok(replayed) => {
             let line = counted(alloc, count, again, &replayed);
+            let replies = replies(alloc, &replayed);
             replayed.end();
-            line
+            Ok(Outcome {
+                line: line?,
+                replies: replies?,
+            })
         }
-        Err(fault) => named(alloc, fault),
+        Err(fault) => ended(alloc, fault),
     }
+}
+
+// It ends with a fault.
+fn ended(alloc: Global, fault: HistoryFault) -> Result<Outcome, NoMemory> {
+    Ok(Outcome {
+        line: named(alloc, fault)?,
+        replies: Vec::new(alloc),
+    })
+}
+
+/// What comes of a text, in one line.
+pub fn line(alloc: Global, input: &Input<'_>) -> Result<String, NoMemory> {
+    let Outcome { line, replies: _ } = outcome_of(alloc, input)?;
+    Ok(line)
 }
 
 fn counted(
@@ -90,34 +117,28 @@ fn again(
     text: &[u8],
 ) -> Result<&'static str, NoMemory> {
     let mut sink = MemSink::new(alloc, 65_536, Vec::new(alloc));
-    let written = write_history(setup, entries, &mut sink);
-    if written.is_ok() && sink.bytes() == text {
-        Ok("written the same")
-    } else {
-        Ok("written otherwise")
+    match write_history(setup, entries, &mut sink) {
+        Ok(()) if sink.bytes() == text => Ok("written the same"),
+        Ok(()) => Ok("written otherwise"),
+        Err(WriteFailed) => Err(NoMemory),
     }
 }
 
 /// What comes of the text of a case: its name, the line, and each reply that was made anew.
 pub fn shown(alloc: Global, name: &str, text: &str) -> Result<Vec<u8>, NoMemory> {
-    let input = Input::of(text.as_bytes());
-    let line = line(alloc, &input)?;
+    let Outcome { line, replies } = outcome_of(alloc, &Input::of(text.as_bytes()))?;
     let mut shown = format!(in alloc; "{name} | {line}\n")?.into_bytes();
-    if let Ok((setup, entries)) = read(alloc, &input)? {
-        if let Ok(replayed) = replay(alloc, setup, entries.as_slice()) {
-            let lines = replies(alloc, &replayed);
-            replayed.end();
-            shown.extend_from_slice(lines?.as_slice())?;
-        }
-    }
+    shown.extend_from_slice(replies.as_slice())?;
     Ok(shown)
 }
 
 // A line for each reply.
 fn replies(alloc: Global, replayed: &Replayed) -> Result<Vec<u8>, NoMemory> {
     let mut sink = MemSink::new(alloc, 65_536, Vec::new(alloc));
-    let _written = write_replies(replayed.replies(), &mut sink);
-    Ok(Vec::from_slice(alloc, sink.bytes())?)
+    match write_replies(replayed.replies(), &mut sink) {
+        Ok(()) => Ok(Vec::from_slice(alloc, sink.bytes())?),
+        Err(WriteFailed) => Err(NoMemory),
+    }
 }
 
 // The name of a fault.
