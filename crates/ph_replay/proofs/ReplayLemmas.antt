@@ -9,11 +9,12 @@ use Rattle.ph_base.specs.declared.acquirer.Why.{Why}
 use Rattle.ph_items.specs.declared.orders.Order.{Order}
 use Rattle.ph_attempts.specs.Attempts.{is_same_run, live_in}
 use Rattle.ph_attempts.specs.declared.flights.Flight.{Flight}
-use Rattle.ph_doings.specs.Doings.{Doing}
+use Rattle.ph_doings.specs.Doings.{Doing, Leaves}
 use Rattle.ph_doings.specs.Kept.{attempts_after, is_run}
-use Rattle.ph_doings.specs.Runs.{Run, NoRun, Flies, live_run}
+use Rattle.ph_doings.specs.Runs.{Run, NoRun, Flies, live_run, live_runs}
 use Rattle.ph_doings.proofs.FoundRuns.{runs_are_found}
-use Rattle.ph_doings.proofs.KeptLists.{attempts_are_unsettled}
+use Rattle.ph_doings.proofs.Kept.{sound}
+use Rattle.ph_doings.proofs.KeptLists.{attempts_are_unsettled, unchanged}
 use Rattle.ph_http.specs.declared.message.Raw.{Raw}
 use Rattle.ph_http.specs.declared.message.Reply.{Reply}
 use Rattle.ph_book.specs.declared.setup.Setup.{Setup}
@@ -32,8 +33,8 @@ use Rattle.ph_book.specs.Replies.{Said, Replies, Waits, Silence}
 use Rattle.ph_book.specs.Runs.{if_own}
 use Rattle.ph_book.specs.State.{BookState, entered}
 use Rattle.ph_book.specs.Tickets.{Holds}
-use Rattle.ph_book.proofs.HistoryLemmas.{past_more, length_past}
-use Rattle.ph_book.proofs.RunLemmas.{run_held}
+use Rattle.ph_book.proofs.HistoryLemmas.{doings_grow, past_more, length_past}
+use Rattle.ph_book.proofs.RunLemmas.{run_held, tick_does}
 use Rattle.ph_book.proofs.StandLemmas.{history_stands}
 use Rattle.ph_replay.specs.declared.told.Told.{Told}
 use Rattle.ph_replay.specs.State.{IsReplay}
@@ -204,6 +205,15 @@ own_none past caller run (Flies flight) others = at (flight.caller == caller) re
     at : (t : Bool) → (flight.caller == caller) ≡ t → cond t (Some flight) None ≡ None
     at true e = absurd (others flight refl (grind (arith, nat_tests)))
     at false e = refl
+
+-- a moment of the clock leaves the live runs as they are
+tick_runs : (setup : Setup) (history : List Entry) (caller moment : ℕ) → setup.entries < 2 ^ 32 → IsLegal setup history
+    → runs_of setup (history ++ tick_entry caller moment ∷ []) ≡ runs_of setup history
+tick_runs setup history caller moment few legal =
+    let past = doings_of setup history in
+    let live = (sound past (history_stands setup history few legal).lawful).live in
+    ap live_runs (doings_grow setup history (tick_entry caller moment) ∙ ap (λ d. d ∷ past) (tick_does setup history caller moment))
+    ∙ unchanged past Leaves (λ run. refl) (live.known (suc (length past)) (omega arith))
 
 pub are_found : (setup : Setup) (history : List Entry) → setup.entries < 2 ^ 32 → IsLegal setup history → AreFound setup history
 are_found setup history few legal =

@@ -194,6 +194,7 @@ impl Replayed {
         if moment > CLOCK_LIMIT {
             return Err(Unentered::Illegal);
         }
+        runs_are_found(&self.book);
         match self.book.apply(caller, Act::Tick(moment)) {
             Ok(answer) => {
                 let Answer::Done = answer else { unreachable!() };
