@@ -231,6 +231,7 @@ are_found setup history few legal =
           let there = finds.finds run flight is in
           let never : None ≡ Some flight = sym none ∙ ap (find (is_run caller run)) (sym kept.live) ∙ ap (λ n. find (is_run n run) (live_in (attempts_after past))) (sym own) ∙ there in
           absurd (cc));
+      ticked = λ caller moment. tick_runs setup history caller moment few legal;
     }
 
 -- ---- a call
