@@ -1,6 +1,6 @@
 -- Which lines begin a history's text.
-use Rattle.std.proofs.Common.{◌≡◌, ℕ, suc, ◌+◌, ◌^◌, ◌<◌, ◌⊎◌, inl, inr, List, [], ◌∷◌, ◌++◌, length, get_or, map, Some, None, Result, Ok, Err, refl, sym, ap, subst, ◌∙◌, append_assoc, arith}
-use Rattle.std.proofs.lemmas.List.{append-nil}
+use Rattle.std.proofs.Common.{◌≡◌, ℕ, suc, ◌+◌, ◌^◌, ◌<◌, ◌⊎◌, inl, inr, List, [], ◌∷◌, ◌++◌, length, get_or, map, take, Some, None, Result, Ok, Err, refl, sym, ap, subst, ◌∙◌, append_assoc, arith}
+use Rattle.std.proofs.lemmas.List.{append-nil, take_more}
 use Rattle.ph_book.specs.declared.acts.Entry.{Entry}
 use Rattle.ph_book.specs.declared.setup.Setup.{Setup}
 use Rattle.ph_lines.specs.declared.reading.Unread.{Unread}
@@ -117,6 +117,11 @@ whole_is (part.Whole setup entries) whole = tt
 pub fits_push : (entries : List Entry) (entry : Entry) → AllFit entries → FitsEntry entry → AllFit (entries ++ entry ∷ [])
 fits_push [] entry fits one = (one, tt)
 fits_push (first ∷ entries) entry fits one = (fits.0, fits_push entries entry fits.1 one)
+
+-- one entry more of a list's
+pub fits_more : (entries : List Entry) (i : ℕ) (entry : Entry) → entry ≡ get_or entries i entry → i < length entries → AllFit (take i entries) → FitsEntry entry → AllFit (take (i + 1) entries)
+fits_more entries i entry is inside fits one =
+    subst AllFit (sym (take_more entries i entry inside)) (subst (λ e. AllFit (take i entries ++ e ∷ [])) is (fits_push (take i entries) entry fits one))
 
 -- ---- what the reader of a line gives
 
