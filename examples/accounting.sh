@@ -35,5 +35,5 @@ requests() {
 if [ "${1:-}" = requests ]; then
     requests
 else
-    requests | ./payhost stdio
+    requests | "$PAYHOST" stdio
 fi

@@ -29,5 +29,5 @@ requests() {
 if [ "${1:-}" = requests ]; then
     requests
 else
-    requests | ./payhost stdio
+    requests | "$PAYHOST" stdio
 fi

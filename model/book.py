@@ -1,7 +1,9 @@
 """The book: entries one after another, each answered by the entries before it, and the rows that they add."""
 
 import disputes
+import forms
 import intents
+import keys
 import parameters
 import refunds
 import rows as book_rows
@@ -49,6 +51,8 @@ class Book:
         self.requests_weight = 0
         self.rows = book_rows.opening(opened)
         self.live = {}  # the attempts whose runs wait, the earliest first, and the number of each one's run
+        self.parked = []  # the attempts that wait to be taken up again, the earliest park first
+        self.records = keys.Records()
 
     # ---- Room
 
@@ -57,7 +61,7 @@ class Book:
         return len(self.history) + len(self.live)
 
     def weight(self):
-        return self.requests_weight + sum(book_rows.weight(row) for row in self.rows)
+        return self.requests_weight + self.records.weight() + sum(book_rows.weight(row) for row in self.rows)
 
     def is_full(self, request):
         too_many = self.used() + 2 > self.most_entries
@@ -72,7 +76,47 @@ class Book:
         self.history.append(("call",))
         self.requests_weight += length(request)
         try:
-            answer = self.carried_out(request)
+            if request.auth != self.key:
+                raise Refusal("wrong_key")
+            if request.account not in (None, PLATFORM_ID):
+                raise Refusal("no_account")
+            call = parameters.read_call(request)
+            key = keys.key_of(request)
+        except Refusal as refusal:
+            return refusal.reply()
+        if key is None:
+            return self.own_answer(call, None)
+        shape = (request.method, request.path, forms.read(request.query, request.body))
+        return self.keyed(book_rows.PLATFORM, key, shape, call)
+
+    def keyed(self, account, key, shape, call):
+        """A call under an idempotency key: by the latest record of the key."""
+        record = self.records.latest(account, key, self.time)
+        if record is None:
+            record = self.records.open(account, key, shape, self.time)
+            answer = self.own_answer(call, key)
+            if isinstance(answer, intents.Waits):
+                record.attempt = answer.attempt
+            else:
+                record.reply = answer
+            return answer
+        if record.shape != shape:
+            return Refusal("key_differs").reply()
+        if record.reply is not None:
+            return record.reply._replace(replayed=True, retry=False)
+        if record.attempt in self.parked:
+            return self.take_up(record.attempt)
+        return Refusal("key_in_use").reply()
+
+    def own_answer(self, call, key):
+        """What a call comes to by itself: its own refusals in their order, and what it adds."""
+        name, identity, given = call
+        try:
+            if name == "set_clock":
+                return Reply(200, self.set_clock(given["now"]))
+            batch = self.batch(book_rows.PLATFORM, key)
+            answer = CALLS[name](batch, identity, given)
+            batch.close()
         except Refusal as refusal:
             return refusal.reply()
         if isinstance(answer, intents.Waits):
@@ -80,19 +124,21 @@ class Book:
             return answer
         return Reply(200, answer)
 
-    def carried_out(self, request):
-        """The refusals of a request, in their order, and what it comes to."""
-        if request.auth != self.key:
-            raise Refusal("wrong_key")
-        if request.account not in (None, PLATFORM_ID):
-            raise Refusal("no_account")
-        name, identity, given = parameters.read_call(request)
-        if name == "set_clock":
-            return self.set_clock(given["now"])
+    def take_up(self, attempt):
+        """A further run of an attempt that is parked, under the same reference."""
+        self.parked.remove(attempt)
         batch = self.batch(book_rows.PLATFORM)
-        answer = CALLS[name](batch, identity, given)
+        intents.take_up(batch, attempt)
         batch.close()
-        return answer
+        self.live[attempt] = len(self.history)
+        return intents.Waits(attempt)
+
+    def resume(self):
+        """The parked attempt whose last park stands earliest is taken up again; None where none is parked."""
+        if self.used() + 2 > self.most_entries:
+            return FULL
+        self.history.append(("resume",))
+        return self.take_up(self.parked[0]) if self.parked else None
 
     def set_clock(self, now):
         if now < self.time:
@@ -103,13 +149,16 @@ class Book:
     def finish(self, attempt, ruling):
         """The acquirer's ruling on an attempt: the reply to the call that began it."""
         self.history.append(("finish", self.live.pop(attempt), ruling))
-        batch = self.batch(book_rows.PLATFORM)
+        record = self.records.of_attempt(attempt)
+        batch = self.batch(book_rows.PLATFORM, record and record.key)
         try:
-            return Reply(200, intents.settle(batch, attempt, ruling))
+            reply = Reply(200, intents.settle(batch, attempt, ruling))
         except Refusal as refusal:
-            return refusal.reply()
-        finally:
-            batch.close()
+            reply = refusal.reply()
+        batch.close()
+        if record:
+            record.reply = reply
+        return reply
 
     def park(self, attempt, why):
         """The end of a run without a ruling."""
@@ -117,6 +166,7 @@ class Book:
         batch = self.batch(book_rows.PLATFORM)
         intents.park(batch, attempt)
         batch.close()
+        self.parked.append(attempt)
         return Refusal(PARKS[why]).reply()
 
     def tick(self, now):
@@ -131,8 +181,8 @@ class Book:
         """What the acquirer is asked for an attempt."""
         return self.rows[attempt - 1].item["order"]
 
-    def batch(self, account):
-        return book_rows.Batch(self.rows, self.time, account, len(self.history))
+    def batch(self, account, key=None):
+        return book_rows.Batch(self.rows, self.time, account, len(self.history), key)
 
 
 def length(request):

@@ -2,8 +2,9 @@
 
 from collections import namedtuple
 
-# What a call is answered: the document is printed as JSON, `retry` says that the same request may be sent again.
-Reply = namedtuple("Reply", "status document retry", defaults=(False,))
+# What a call is answered: the document is printed as JSON, `retry` says that the same request may be sent again,
+# `replayed` that the reply was saved by an earlier request with the same idempotency key.
+Reply = namedtuple("Reply", "status document retry replayed", defaults=(False, False))
 
 INVALID = "invalid_request_error"
 
@@ -24,6 +25,12 @@ TABLE = {
     "too_large": (400, INVALID, "amount_too_large", None, "Amount is above the maximum.", False),
     "invalid": (400, INVALID, None, None, "Invalid value.", False),
     "no_method": (400, INVALID, "resource_missing", None, "No such payment method.", False),
+    # the idempotency key
+    "key_too_long": (400, "idempotency_error", None, None, "Idempotency key is too long.", False),
+    "key_not_text": (400, "idempotency_error", None, None, "Idempotency key is not text.", False),
+    "key_differs": (400, "idempotency_error", None, None, "Idempotency key was used with other parameters.", False),
+    "key_in_use": (409, "idempotency_error", "idempotency_key_in_use", None,
+                   "A request with this idempotency key is running.", True),
     # what stands
     "no_object": (404, INVALID, "resource_missing", "id", "No such object.", False),
     "wrong_status": (400, INVALID, "payment_intent_unexpected_state", None,

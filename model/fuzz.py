@@ -48,6 +48,7 @@ class Session:
     def __init__(self, chance):
         self.chance = chance
         self.seen = []
+        self.sent = []  # what was sent under a key, to be sent again
 
     def one(self, values):
         return self.chance.choice(values)
@@ -187,6 +188,11 @@ class Session:
         method, target, form = self.call()
         headers = ["key"] if self.likely(0.98) else [self.one(["", "Authorization: Bearer x", "Authorization: key"])]
         headers += self.header()
+        if self.sent and self.likely(0.2):
+            return self.one(self.sent)
+        if self.likely(0.3):
+            headers.append(f"Idempotency-Key: {self.one(['a', 'a', 'b'])}")
+            self.sent.append([f"> {method} {target}"] + [line for line in headers if line] + ["", form])
         return [f"> {method} {target}"] + [line for line in headers if line] + ["", form]
 
     def header(self):
@@ -313,6 +319,9 @@ def word_case(chance):
     return [" ".join(words)], lines
 
 
+KEYS = ["a", "a", "a", "b", "c", "\\xff", "\\{k*256}", ""]
+
+
 def history_case(chance):
     """The fields and the lines of a history. Runs stay open for a while, and room is little."""
     session = Session(chance)
@@ -337,12 +346,18 @@ def history_step(chance, session, waiting):
     if waiting and chance.random() < 0.5:
         return chance.choice(["approve"] * 6 + ["decline", "funds", "challenge", "challenge", "park pending",
                                                 "park failed", "park memory"])
+    if session.sent and chance.random() < 0.2:
+        return chance.choice(session.sent)
     if chance.random() < 0.1:
-        return chance.choice(["entries", "balance 1 usd", "balance 1 jpy", "balance 2 usd", "tick 1700172800",
+        return chance.choice(["resume", "resume", "resume", "entries", "balance 1 usd", "balance 1 jpy", "balance 2 usd", "tick 1700172800",
                               f"tick {chance.randrange(1700000000, 1700400000)}"])
     method, target, form = session.call()
     front = chance.choice([""] * 30 + ["as -: ", "as x: ", "account acct_0000000000000001: ", "account x: "])
-    return f"{front}{method} {target if target.startswith('/') else '/'} {form.replace(' ', '+')}".rstrip()
+    line = f"{method} {target if target.startswith('/') else '/'} {form.replace(' ', '+')}".rstrip()
+    if chance.random() < 0.4:
+        line = f"under {chance.choice(KEYS)}: {line}"
+        session.sent.append(line)
+    return f"{front}{line}"
 
 
 def printed(run, fields, lines):

@@ -25,7 +25,7 @@ class Steps:
 
     def answer(self, line, plain):
         headers = {}
-        for word, field in ((b"as ", "auth"), (b"account ", "account")):
+        for word, field in ((b"as ", "auth"), (b"account ", "account"), (b"under ", "key")):
             if line.startswith(word):
                 value, line = line[len(word) :].split(b": ", 1)
                 headers[field] = None if word == b"as " and value == b"-" else plain(value)
@@ -39,6 +39,8 @@ class Steps:
             return said(self.book.park(self.ticket(given[1:]), given[0]))
         if word == "tick":
             return self.book.tick(int(given[0])) or "done"
+        if word == "resume":
+            return self.waiting(self.book.resume())
         if word == "entries":
             return f"{len(self.book.history)} entries, {len(self.book.rows)} rows"
         if word == "balance":
@@ -53,16 +55,16 @@ class Steps:
         method, target, *body = words
         path, mark, query = target.partition(b"?")
         body = plain(body[0]) if body and body != [b"-"] else b""
-        fields = {"auth": self.book.key, "account": None, **headers}
-        request = Request(method=plain(method), path=plain(path), query=plain(query) if mark else None, key=None,
+        fields = {"auth": self.book.key, "account": None, "key": None, **headers}
+        request = Request(method=plain(method), path=plain(path), query=plain(query) if mark else None,
                           body=body, close=False, waits=False, **fields)
-        answer = self.book.call(request)
-        if answer == FULL:
-            return FULL
-        if isinstance(answer, Waits):
-            return f"waits for {answer.attempt}"
-        return said(answer)
+        return self.waiting(self.book.call(request))
+
+    def waiting(self, answer):
+        if answer == FULL or answer is None:
+            return answer or "done"
+        return f"waits for {answer.attempt}" if isinstance(answer, Waits) else said(answer)
 
 
 def said(reply):
-    return f"{reply.status} {views.text(reply.document)}"
+    return f"{reply.status} {'replayed ' if reply.replayed else ''}{views.text(reply.document)}"

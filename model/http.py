@@ -160,7 +160,7 @@ REASONS = {
 CONTINUE = b"HTTP/1.1 100 Continue\r\n\r\n"
 
 
-def written(status, text, retry, close):
+def written(status, text, retry, close, replayed=False):
     """The bytes of a reply; `close` says that the connection ends after it."""
     body = text.encode()
     lines = [
@@ -168,6 +168,8 @@ def written(status, text, retry, close):
         "Content-Type: application/json",
         f"Content-Length: {len(body)}",
     ]
+    if replayed:
+        lines.append("Idempotent-Replayed: true")
     if retry:
         lines.append("Stripe-Should-Retry: true")
     if close:

@@ -178,6 +178,11 @@ def decline(batch, intent, error):
     batch.announce("payment_intent.payment_failed", intent)
 
 
+def take_up(batch, attempt):
+    """An attempt that was left is asked for again, under the reference that it has."""
+    batch.change(attempt, state="live")
+
+
 def park(batch, attempt):
     """Leaves an attempt that wasn't ruled on; its intent stays in processing."""
     batch.change(attempt, state="parked")

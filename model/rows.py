@@ -46,8 +46,8 @@ def named(rows, text, kind, account=None):
 class Batch:
     """What one entry adds: object rows in order, and behind them the events in the order announced."""
 
-    def __init__(self, rows, time, account, entry):
-        self.rows, self.time, self.account, self.entry = rows, time, account, entry
+    def __init__(self, rows, time, account, entry, key=None):
+        self.rows, self.time, self.account, self.entry, self.key = rows, time, account, entry, key
         self.events = []
 
     def next_number(self):
@@ -84,7 +84,7 @@ class Batch:
     def close(self):
         """Adds the event rows. An event belongs to its object's account."""
         for sort, number in self.events:
-            self.add("event", {"type": sort, "of": number, "key": None}, self.account_of(number))
+            self.add("event", {"type": sort, "of": number, "key": self.key}, self.account_of(number))
 
 
 def texts(item):

@@ -123,4 +123,4 @@ def answer(book, request, link, patience):
 
 
 def written(reply, close):
-    return http.written(reply.status, views.text(reply.document), reply.retry, close)
+    return http.written(reply.status, views.text(reply.document), reply.retry, close, reply.replayed)

@@ -3,12 +3,11 @@ use Rattle.std.proofs.Common.{◌≡◌, ◌≢◌, ℕ, zero, suc, ◌+◌, ◌
 use Rattle.ph_base.specs.declared.acquirer.Ruling.{Ruling}
 use Rattle.ph_base.specs.declared.acquirer.Why.{Why}
 use Rattle.ph_attempts.specs.declared.flights.Flight.{Flight}
-use Rattle.ph_http.specs.declared.message.Raw.{Raw}
 use Rattle.ph_book.specs.declared.setup.Setup.{Setup}
 use Rattle.ph_book.specs.declared.acts.Answer.TheVariants as answer
 use Rattle.ph_book.specs.declared.acts.Entry.{Entry}
 use Rattle.ph_book.specs.Answers.{Says}
-use Rattle.ph_book.specs.Entries.{call_entry, finish_entry, park_entry, tick_entry}
+use Rattle.ph_book.specs.Entries.{finish_entry, park_entry}
 use Rattle.ph_book.specs.Laws.{RunsFollow, ended_in}
 use Rattle.ph_book.specs.Replies.{Said, Replies, Waits, Silence}
 use Rattle.ph_book.specs.State.{BookState, entered}
@@ -31,19 +30,12 @@ all_still setup history entry (ticket ∷ tickets) runs none held = (
   (held.1.0, all_still setup history entry tickets runs none held.1.1),
 )
 
-pub held_call : (old new : BookState) (raw : Raw) (tickets : List Flight) → RunsFollow old.setup old.history → AreHeld old.setup old.history tickets
-    → new ≡ entered old (call_entry 0 raw) → AreHeld new.setup new.history tickets
-held_call old new raw tickets runs held is =
-    subst (λ (book : BookState). AreHeld book.setup book.history tickets) (sym is)
-    (all_still old.setup old.history (call_entry 0 raw) tickets runs refl held)
+pub held_entry : (old new : BookState) (entry : Entry) (tickets : List Flight) → RunsFollow old.setup old.history → ended_in entry.deed ≡ None
+    → AreHeld old.setup old.history tickets → new ≡ entered old entry → AreHeld new.setup new.history tickets
+held_entry old new entry tickets runs none held is =
+    subst (λ (book : BookState). AreHeld book.setup book.history tickets) (sym is) (all_still old.setup old.history entry tickets runs none held)
 
-pub held_tick : (old new : BookState) (moment : ℕ) (tickets : List Flight) → RunsFollow old.setup old.history → AreHeld old.setup old.history tickets
-    → new ≡ entered old (tick_entry 0 moment) → AreHeld new.setup new.history tickets
-held_tick old new moment tickets runs held is =
-    subst (λ (book : BookState). AreHeld book.setup book.history tickets) (sym is)
-    (all_still old.setup old.history (tick_entry 0 moment) tickets runs refl held)
-
--- ---- a call that waits
+-- ---- an entry that waits
 
 -- the ticket of an answer has the place of the entry as its run
 pub says_run : (place caller : ℕ) (said : Said) (ticket : Flight) → Says place caller said (answer.Wait ticket) → ticket.run ≡ place
@@ -64,15 +56,15 @@ held_push setup history before (ticket ∷ tickets) last runs old held holds run
     let other : ticket.run ≢ last.run = λ same. absurd (omega (arith, same, below, run)) in
     (held.0, (apart_push ticket last tickets other held.1.0, held_push setup history before tickets last runs old.1.1 held.1.1 holds run))
 
--- the tickets in hand behind a call that waits
-pub held_more : (old new : BookState) (raw : Raw) (tickets : List Flight) (ticket : Flight) → RunsFollow old.setup old.history
-    → AreHeld old.setup old.history tickets → new ≡ entered old (call_entry 0 raw) → Holds new.setup new.history 0 ticket
+-- the tickets in hand behind an entry that waits
+pub held_more : (old new : BookState) (entry : Entry) (tickets : List Flight) (ticket : Flight) → RunsFollow old.setup old.history → ended_in entry.deed ≡ None
+    → AreHeld old.setup old.history tickets → new ≡ entered old entry → Holds new.setup new.history 0 ticket
     → ticket.run ≡ length old.history + 1 → AreHeld new.setup new.history (tickets ++ ticket ∷ [])
-held_more old new raw tickets ticket runs held is holds run =
-    let grown : BookState = entered old (call_entry 0 raw) in
+held_more old new entry tickets ticket runs none held is holds run =
+    let grown : BookState = entered old entry in
     let holds_here : Holds grown.setup grown.history 0 ticket = subst (λ (book : BookState). Holds book.setup book.history 0 ticket) is holds in
     subst (λ (book : BookState). AreHeld book.setup book.history (tickets ++ ticket ∷ [])) (sym is)
-    (held_push old.setup grown.history old.history tickets ticket runs held (held_call old grown raw tickets runs held refl) holds_here run)
+    (held_push old.setup grown.history old.history tickets ticket runs held (held_entry old grown entry tickets runs none held refl) holds_here run)
 
 -- ---- the end of a run
 

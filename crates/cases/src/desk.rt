@@ -105,6 +105,25 @@ impl Desk {
         Said::Reply(park(&mut self.book, ticket, why))
     }
 
+    /// Takes up the attempt that waits longest. Where one waits, its ticket is in hand.
+    pub fn resume(&mut self) -> Result<Said, NoMemory> {
+        self.tickets.reserve(1)?;
+        runs_follow(self.book.setup(), self.book.history());
+        match self.book.apply(0, Act::Resume) {
+            Ok(Answer::Wait(ticket)) => {
+                let reference = ticket.order().reference;
+                self.tickets.push_reserved(ticket);
+                Ok(Said::Waits(reference))
+            }
+            Ok(Answer::Done) => Ok(Said::Done),
+            Ok(Answer::Reply(_)) => unreachable!(),
+            Err((act, refused)) => {
+                let Act::Resume = act else { unreachable!() };
+                refusal(refused)
+            }
+        }
+    }
+
     /// Enters a moment of the clock.
     pub fn tick(&mut self, moment: u64) -> Result<Said, NoMemory>
         requires clock { moment ≤ clock_limit }

@@ -140,7 +140,7 @@ fn add_answer(
         Step::Balance(account, currency) => {
             add_balance(alloc, output, desk.book(), *account, *currency)?;
         }
-        Step::Call(_) | Step::Finish(_, _) | Step::Park(_, _) | Step::Tick(_) => {
+        Step::Call(_) | Step::Finish(_, _) | Step::Park(_, _) | Step::Resume | Step::Tick(_) => {
             add_said(alloc, output, said(alloc, desk, step, line)?)?;
         }
     }
@@ -159,6 +159,7 @@ fn said(alloc: Global, desk: &mut Desk, step: &Step<'_>, line: usize) -> Result<
             Some(at) => Ok(desk.park(at, *why)),
             None => Err(CaseError::Line(line)),
         },
+        Step::Resume => Ok(desk.resume()?),
         Step::Tick(moment) if *moment <= CLOCK_LIMIT => Ok(desk.tick(*moment)?),
         Step::Tick(_) | Step::Entries | Step::Balance(_, _) => Err(CaseError::Line(line)),
     }
@@ -211,6 +212,9 @@ fn add_said(alloc: Global, output: &mut Vec<u8>, said: Said) -> Result<(), Alloc
 fn add_reply(alloc: Global, output: &mut Vec<u8>, reply: &Reply) -> Result<(), AllocError> {
     add_number(alloc, output, u64::from(reply.status))?;
     output.push(b' ')?;
+    if reply.replayed {
+        output.extend_from_slice(b"replayed ")?;
+    }
     output.extend_from_slice(reply.body.as_slice())?;
     add_line(output, "")
 }
@@ -246,7 +250,7 @@ fn raw_of(alloc: Global, key: &[u8], request: &Request<'_>, line: usize) -> Resu
         path: text_of(alloc, path, line)?,
         query: text_if(alloc, query, line)?,
         auth: auth_of(alloc, key, request.presented, line)?,
-        key: None,
+        key: text_if(alloc, request.key, line)?,
         account: text_if(alloc, request.account, line)?,
         body: text_of(alloc, body_of(request.body), line)?,
         close: false,

@@ -164,6 +164,7 @@ fn print_history(alloc: Global, printed: &mut Vec<u8>, book: &Book) -> Result<()
             Deed::Call(_) => format!(in alloc; "call\n")?,
             Deed::Finish(run, ruling) => format!(in alloc; "finish {run} {ruling:?}\n")?,
             Deed::Park(run, why) => format!(in alloc; "park {run} {why:?}\n")?,
+            Deed::Resume => format!(in alloc; "resume\n")?,
             Deed::Tick(moment) => format!(in alloc; "tick {moment}\n")?,
         };
         printed.extend_from_slice(line.as_bytes())?;

@@ -145,10 +145,10 @@ fn run_on<A: Acquirer + Drop>(
     }
 }
 
-// How many further polls the words grant.
+// How many further polls the words grant a session; words that ask for none grant none.
 fn polls(words: &[Bytes]) -> u64 {
     match plan(words) {
         Plan::Once { patience } => u64::from(patience),
-        Plan::Usage => 0,
+        Plan::Host { .. } | Plan::Usage => 0,
     }
 }

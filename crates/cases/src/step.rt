@@ -5,13 +5,15 @@
 //! | `METHOD TARGET [BODY]` | a request of caller 0 under the book's key; `-` as body is none |
 //! | `as TEXT: ..` | the same under other credentials; `-` as text is none at all |
 //! | `account TEXT: ..` | the same with a `Stripe-Account` header |
+//! | `under TEXT: ..` | the same with an `Idempotency-Key` header |
 //! | `approve`, `decline`, `funds`, `challenge`, each `[N]` | a ruling on the earliest run whose ticket is in hand, or on that whose attempt is N |
 //! | `park pending`, `park failed`, `park memory`, each `[N]` | the run is given up |
+//! | `resume` | the attempt that waits longest is taken up again |
 //! | `tick N` | a moment of the clock |
 //! | `entries` | how many entries and rows the book has |
 //! | `balance ACCOUNT CURRENCY` | what an account has in a currency |
 //!
-//! `account` may stand behind `as`.
+//! `account` may stand behind `as`, and `under` behind both.
 
 use ph_base::{Decline, Ruling, Why, read_number};
 use ph_money::Currency;
@@ -22,6 +24,7 @@ pub struct Request<'t> {
     /// Its credentials, where they aren't the book's key.
     pub presented: Option<&'t str>,
     pub account: Option<&'t str>,
+    pub key: Option<&'t str>,
     pub method: &'t str,
     pub target: &'t str,
     pub body: &'t str,
@@ -33,6 +36,7 @@ pub enum Step<'t> {
     Call(Request<'t>),
     Finish(Ruling, Option<u64>),
     Park(Why, Option<u64>),
+    Resume,
     Tick(u64),
     Entries,
     Balance(u64, Currency),
@@ -50,6 +54,7 @@ pub fn step_of(line: &str) -> Option<Step<'_>> {
 fn request_of(line: &str) -> Option<Request<'_>> {
     let (presented, line) = prefixed(line, "as ");
     let (account, line) = prefixed(line, "account ");
+    let (key, line) = prefixed(line, "under ");
     let mut words = line.split(' ');
     let method = words.next()?;
     let target = words.next()?;
@@ -60,6 +65,7 @@ fn request_of(line: &str) -> Option<Request<'_>> {
     Some(Request {
         presented,
         account,
+        key,
         method,
         target,
         body,
@@ -82,6 +88,7 @@ fn act_of(line: &str) -> Option<Step<'_>> {
     let (word, rest) = line.split_once(' ').unwrap_or((line, ""));
     match word {
         "tick" => Some(Step::Tick(read_number(rest.as_bytes())?)),
+        "resume" if rest.is_empty() => Some(Step::Resume),
         "entries" if rest.is_empty() => Some(Step::Entries),
         "balance" => balance_of(rest),
         "park" => park_of(rest),

@@ -1,11 +1,14 @@
 -- What requests come to keeps the rows sound, by the law of each call.
-use Rattle.std.proofs.Common.{◌≡◌, ℕ, ◌+◌, ◌≤◌, Bool, true, false, cond, not, nat_lt, List, Option, None, Some, Result, Ok, Err, refl, arith, codes, IfOk}
+use Rattle.std.proofs.Common.{◌≡◌, ℕ, ◌+◌, ◌≤◌, Bool, true, false, cond, not, nat_lt, List, [], length, Option, None, Some, Result, Ok, Err, refl, arith, codes, IfOk}
+use Rattle.std.specs.List.{list_all}
+use Rattle.std.specs.Str.{is_utf8}
 use Rattle.std.proofs.lemmas.Bool.Decides.{nat_tests}
 use Rattle.ph_base.specs.declared.ids.Kind.{Kind}
 use Rattle.ph_errors.specs.declared.api_error.ApiError.{ApiError}
-use Rattle.ph_errors.specs.Table.{ClockBackwards, InvalidApiKey, NoSuchAccount, error_of}
+use Rattle.ph_errors.specs.Table.{ClockBackwards, InvalidApiKey, KeyNotText, KeyTooLong, NoSuchAccount, error_of}
 use Rattle.ph_items.specs.Accounts.{platform}
 use Rattle.ph_items.specs.Clocks.{clock_limit}
+use Rattle.ph_items.specs.Weights.{with_text}
 use Rattle.ph_rows.specs.declared.rows.Row.{Row}
 use Rattle.ph_rows.specs.Names.{owned_named}
 use Rattle.ph_rows.specs.Views.{ViewState}
@@ -13,13 +16,15 @@ use Rattle.ph_facts.specs.Keeps.{IsReady, KeepsRows, batch_after, is_refusal, mo
 use Rattle.ph_facts.specs.Outcomes.{Outcome, Refuses, Adds}
 use Rattle.ph_facts.specs.Sound.{IsSound}
 use Rattle.ph_facts.proofs.DoneLemmas.{kept_few, no_object, nothing_added}
+use Rattle.ph_form.specs.declared.fault.FormFault.{FormFault}
+use Rattle.ph_form.specs.declared.leaf.Leaf.{Leaf}
 use Rattle.ph_http.specs.declared.message.Raw.{Raw}
 use Rattle.ph_kinds.specs.declared.authentication.Authentication.{Authentication}
 use Rattle.ph_kinds.specs.declared.authentication.Authentication.TheVariants.{Succeeded, Failed}
 use Rattle.ph_calls.specs.declared.call.Authenticate.{Authenticate}
 use Rattle.ph_calls.specs.declared.call.Call.{Call}
 use Rattle.ph_calls.specs.declared.call.Call.TheVariants as call
-use Rattle.ph_calls.specs.Reading.{reading_of}
+use Rattle.ph_calls.specs.Reading.{form_of, reading_of}
 use Rattle.ph_calls.specs.Fit as calls
 use Rattle.ph_calls.proofs.FitLemmas.{reading_fit}
 use Rattle.ph_disputes.specs.Answers.{evidence_outcome}
@@ -35,13 +40,17 @@ use Rattle.ph_intents.proofs.KeepsLemmas.{create_keeps, create_confirmed_keeps, 
 use Rattle.ph_refunds.proofs.LawLemmas.{refund_keeps}
 use Rattle.ph_disputes.proofs.AnswerLemmas.{close_keeps, evidence_keeps}
 use Rattle.ph_disputes.proofs.OpeningLemmas.{open_due_keeps}
-use Rattle.ph_book.specs.Calls.{Upshot, Rejects, Makes, Shows, Sets, and_opened, authenticated, called_at, carried, clock_set, found_outcome, is_key, is_platform, read_upshot, retrieved}
+use Rattle.ph_book.specs.declared.judged.Judged.{Judged}
+use Rattle.ph_book.specs.declared.judged.Judged.TheVariants.{Refused, Accepted}
+use Rattle.ph_book.specs.Calls.{key_asked, Upshot, Rejects, Replays, Makes, Shows, Sets, and_opened, authenticated, carried, clock_set, found_outcome, retrieved}
+use Rattle.ph_book.specs.Keys.{asked_in, asked_by, formed_request, is_key, is_platform, key_of, keyed_request, read_request, request_of}
 use Rattle.ph_book.proofs.ErrorLemmas.{IfRefused, IsAnswered, answered, chosen, reading_answered}
 
 -- the error of a request that is no call can be answered; what a call comes to keeps the rows sound; or the clock is set to a moment
 -- that it may show
 abbrev pub KeepsCall : ViewState → Upshot → Type 0
 KeepsCall state (Rejects error) = IsAnswered error
+KeepsCall state (Replays saved) = Unit {0}
 KeepsCall state (Makes outcome) = KeepsRows state most_rows outcome
 KeepsCall state (Shows doc) = Unit {0}
 KeepsCall state (Sets moment) = (state.time ≤ moment) × (moment ≤ clock_limit)
@@ -82,7 +91,7 @@ clock_keeps state moment shown = at (nat_lt moment state.time) refl
     at false e = (grind (arith, nat_tests), shown)
 
 -- a call that is carried out: one line for each row of the table of calls
-carried_keeps : (state : ViewState) (entry : ℕ) (c : Call) → IsReady state → calls.IsFit c → KeepsCall state (carried state.rows state.time c (batch_after state entry))
+pub carried_keeps : (state : ViewState) (entry : ℕ) (c : Call) → IsReady state → calls.IsFit c → KeepsCall state (carried state.rows state.time c (batch_after state entry))
 carried_keeps state entry (call.CreateIntent c) ready fit =
     chosen (KeepsRows state most_rows) c.confirm (create_confirmed_outcome state.rows platform c (batch_after state entry))
     (create_outcome state.rows platform c (batch_after state entry))
@@ -101,18 +110,63 @@ carried_keeps state entry (call.GetBalance c) ready fit = tt
 carried_keeps state entry (call.SetClock c) ready fit = clock_keeps state c.now fit.shown
 carried_keeps state entry (call.Authenticate c) ready fit = kept_few state 2 most_rows (authenticated state.rows c (batch_after state entry) c.outcome) (authenticated_keeps state entry c c.outcome ready) (omega arith)
 
-read_keeps : (state : ViewState) (entry : ℕ) (reading : Result Call ApiError) → IsReady state → IfRefused reading → IfOk reading calls.IsFit
-    → KeepsCall state (read_upshot state.rows state.time reading (batch_after state entry))
-read_keeps state entry (Err error) ready refused fit = refused
-read_keeps state entry (Ok c) ready refused fit = carried_keeps state entry c ready fit
+-- the error of a request that is refused can be answered, and a call that is accepted is fit to be carried out
+abbrev pub KeepsJudged : Judged → Type 0
+KeepsJudged (Refused error) = IsAnswered error
+KeepsJudged (Accepted c asked) = calls.IsFit c
 
--- what a request comes to
-pub called_keeps : (key : List ℕ) (state : ViewState) (entry : ℕ) (raw : Raw) → IsReady state
-    → KeepsCall state (called_at key state.rows state.time entry raw)
-unfolding called_at
-called_keeps key state entry raw ready =
-    let read : Upshot = read_upshot state.rows state.time (reading_of raw) (batch_after state entry) in
-    chosen (KeepsCall state) (not (is_key key raw.auth)) (Rejects (error_of InvalidApiKey))
-    (cond (not (is_platform raw.account)) (Rejects (error_of NoSuchAccount)) read) (answered InvalidApiKey)
-    (chosen (KeepsCall state) (not (is_platform raw.account)) (Rejects (error_of NoSuchAccount)) read (answered NoSuchAccount)
-    (read_keeps state entry (reading_of raw) ready (reading_answered raw) (reading_fit raw)))
+keyed_keeps : (raw : Raw) (c : Call) (tree : List Leaf) (key : Option (List ℕ)) → calls.IsFit c → KeepsJudged (keyed_request raw c tree key)
+keyed_keeps raw c tree None fit = fit
+keyed_keeps raw c tree (Some key) fit =
+    chosen KeepsJudged (nat_lt 255 (length key)) (Refused (error_of KeyTooLong))
+    (cond (not (is_utf8 key)) (Refused (error_of KeyNotText)) (Accepted c (Some (asked_by raw tree key)))) (answered KeyTooLong)
+    (chosen KeepsJudged (not (is_utf8 key)) (Refused (error_of KeyNotText)) (Accepted c (Some (asked_by raw tree key))) (answered KeyNotText) fit)
+
+formed_keeps : (raw : Raw) (c : Call) (form : Result (List Leaf) FormFault) → calls.IsFit c → KeepsJudged (formed_request raw c form)
+formed_keeps raw c (Err fault) fit = fit
+formed_keeps raw c (Ok tree) fit = keyed_keeps raw c tree (key_of raw) fit
+
+read_keeps : (raw : Raw) (reading : Result Call ApiError) → IfRefused reading → IfOk reading calls.IsFit → KeepsJudged (read_request raw reading)
+read_keeps raw (Err error) refused fit = refused
+read_keeps raw (Ok c) refused fit = formed_keeps raw c (form_of raw) fit
+
+-- what the steps of a request before its own make of it
+pub judged_keeps : (key : List ℕ) (raw : Raw) → KeepsJudged (request_of key raw)
+unfolding request_of
+judged_keeps key raw =
+    let read : Judged = read_request raw (reading_of raw) in
+    chosen KeepsJudged (not (is_key key raw.auth)) (Refused (error_of InvalidApiKey))
+    (cond (not (is_platform raw.account)) (Refused (error_of NoSuchAccount)) read) (answered InvalidApiKey)
+    (chosen KeepsJudged (not (is_platform raw.account)) (Refused (error_of NoSuchAccount)) read (answered NoSuchAccount)
+    (read_keeps raw (reading_of raw) (reading_answered raw) (reading_fit raw)))
+
+-- a key under which something is asked is text
+abbrev pub IsText : Option (List ℕ) → Type 0
+IsText key = list_all is_utf8 (with_text key []) ≡ true
+
+keyed_text : (raw : Raw) (c : Call) (tree : List Leaf) (key : Option (List ℕ)) → IsText (key_asked (asked_in (keyed_request raw c tree key)))
+keyed_text raw c tree None = refl
+keyed_text raw c tree (Some key) = at (nat_lt 255 (length key)) (is_utf8 key) refl
+  where
+    at : (long text : Bool) → is_utf8 key ≡ text
+        → IsText (key_asked (asked_in (cond long (Refused (error_of KeyTooLong)) (cond (not text) (Refused (error_of KeyNotText)) (Accepted c (Some (asked_by raw tree key)))))))
+    at true text e = refl
+    at false false e = refl
+    at false true e = rw e refl
+
+formed_text : (raw : Raw) (c : Call) (form : Result (List Leaf) FormFault) → IsText (key_asked (asked_in (formed_request raw c form)))
+formed_text raw c (Err fault) = refl
+formed_text raw c (Ok tree) = keyed_text raw c tree (key_of raw)
+
+read_text : (raw : Raw) (reading : Result Call ApiError) → IsText (key_asked (asked_in (read_request raw reading)))
+read_text raw (Err error) = refl
+read_text raw (Ok c) = formed_text raw c (form_of raw)
+
+pub judged_text : (key : List ℕ) (raw : Raw) → IsText (key_asked (asked_in (request_of key raw)))
+unfolding request_of
+judged_text key raw =
+    let read : Judged = read_request raw (reading_of raw) in
+    chosen (λ (j : Judged). IsText (key_asked (asked_in j))) (not (is_key key raw.auth)) (Refused (error_of InvalidApiKey))
+    (cond (not (is_platform raw.account)) (Refused (error_of NoSuchAccount)) read) refl
+    (chosen (λ (j : Judged). IsText (key_asked (asked_in j))) (not (is_platform raw.account)) (Refused (error_of NoSuchAccount)) read refl
+    (read_text raw (reading_of raw)))

@@ -13,9 +13,9 @@ use Rattle.ph_book.specs.declared.acts.Entry.{Entry}
 use Rattle.ph_book.specs.History.{Happening, and_then, doings_after, effect_after, happening_of, past_of}
 use Rattle.ph_book.specs.Legal.{AreAllowed, IsAllowed, IsLegal, is_full, is_full_after, is_full_at, used_after, weight_after}
 use Rattle.ph_book.specs.Stays.{doings_more}
-use Rattle.ph_book.proofs.EffectLemmas.{Comes, effect_comes}
+use Rattle.ph_book.proofs.EffectLemmas.{Comes}
 use Rattle.ph_book.proofs.HistoryLemmas.{weight_more}
-use Rattle.ph_book.proofs.StandLemmas.{HasStood, legal_stands, stood_more, view_after}
+use Rattle.ph_book.proofs.StandLemmas.{HasStood, comes_next, legal_stands, stood_more, view_after}
 
 -- no doing ends more than one run
 ended_few : (does : Doing) → runs_ended does ≤ 1
@@ -32,9 +32,7 @@ used_grows : (setup : Setup) (past : List Happening) (entry : Entry) → HasStoo
     → used_after past ≤ used_after (and_then setup past entry)
 used_grows setup past entry stood allowed =
     let h : Happening = happening_of setup past entry in
-    let places = stood.places in
-    let comes : Comes (view_after setup past) (doings_after past) (effect_after setup past entry) =
-    effect_comes setup (view_after setup past) (doings_after past) (length past + 1) entry.caller entry.deed stood.stands (omega (arith, places)) allowed.clock in
+    let comes : Comes (view_after setup past) (doings_after past) (effect_after setup past entry) = comes_next setup past entry stood allowed in
     let counted = runs_are_counted (doings_after past) h.doing (comes.may, stood.stands.lawful) in
     let few = ended_few h.doing in
     let same = ap (λ x. length (live_runs x)) (doings_more past h) in
@@ -50,6 +48,7 @@ full_at_more : (setup : Setup) (used used' weight weight' : ℕ) (d : Deed) → 
 full_at_more setup used used' weight weight' (deed.Call raw) more heavier full = grind (arith, nat_tests)
 full_at_more setup used used' weight weight' (deed.Finish run ruling) more heavier full = full
 full_at_more setup used used' weight weight' (deed.Park run why) more heavier full = full
+full_at_more setup used used' weight weight' deed.Resume more heavier full = grind (arith, nat_tests)
 full_at_more setup used used' weight weight' (deed.Tick moment) more heavier full = grind (arith, nat_tests)
 
 full_from : (setup : Setup) (past : List Happening) (more : List Entry) (d : Deed) → setup.entries < 2 ^ 32 → HasStood setup past → AreAllowed setup past more

@@ -1,6 +1,6 @@
 -- One entry more, and what follows from it.
-use Rattle.std.proofs.Common.{◌≡◌, ℕ, ◌+◌, ◌^◌, ◌<◌, ◌≤◌, ◌↔◌, ◌∷◌, ◌++◌, Bool, true, false, List, [], length, refl, sym, ap, ◌∙◌, subst, length-append, arith, IsTrue}
-use Rattle.std.specs.List.{fold, flat_map, sum_by}
+use Rattle.std.proofs.Common.{◌≡◌, ℕ, ◌+◌, ◌^◌, ◌<◌, ◌≤◌, ◌↔◌, ◌∷◌, ◌++◌, Bool, true, false, List, [], length, Option, refl, sym, ap, ◌∙◌, subst, length-append, arith, IsTrue}
+use Rattle.std.specs.List.{fold, flat_map, list_all, sum_by}
 use Rattle.std.proofs.lemmas.List.{append-nil}
 use Rattle.std.proofs.lemmas.List.Sums.{fold-append, sum_by-append}
 use Rattle.std.proofs.lemmas.Grind.{flat_map-append}
@@ -13,6 +13,7 @@ use Rattle.ph_items.specs.Clocks.{clock_limit}
 use Rattle.ph_rows.specs.Weights.{rows_weight}
 use Rattle.ph_http.specs.declared.message.Reply.{Reply}
 use Rattle.ph_lock.specs.declared.object.Refused.{Refused}
+use Rattle.ph_idem.specs.declared.key_record.KeyRecord.{KeyRecord}
 use Rattle.ph_book.specs.declared.setup.Setup.{Setup}
 use Rattle.ph_book.specs.declared.acts.Act.{Act}
 use Rattle.ph_book.specs.declared.acts.Act.TheVariants as act
@@ -24,9 +25,9 @@ use Rattle.ph_book.specs.Answers.{Says, replies_in}
 use Rattle.ph_book.specs.Entries.{IsWithinClock, deed_of, entry_of}
 use Rattle.ph_book.specs.Hosts.{IsLawful}
 use Rattle.ph_book.specs.Replies.{Said, Replies, Waits, Silence, replies_said}
-use Rattle.ph_book.specs.History.{Happening, opening_row, rows_after, time_after, doings_after, effect_of, happening_of, and_then, past_of, rows_of, time_of, doings_of, effect_to, said_to, replies_of}
-use Rattle.ph_book.specs.Legal.{EndsOwn, deed_weight, weight_after, used_after, is_full_at, is_full_after, is_full, IsAllowed, AreAllowed, IsLegal}
-use Rattle.ph_book.specs.State.{BookState, entered, IsBook}
+use Rattle.ph_book.specs.History.{Happening, opening_row, rows_after, time_after, doings_after, effect_of, happening_of, and_then, past_of, rows_of, time_of, doings_of, effect_to, said_to, replies_of, keys_after}
+use Rattle.ph_book.specs.Legal.{EndsOwn, deed_weight, saved_weight, weight_after, used_after, is_full_at, is_full_after, is_full, IsAllowed, AreAllowed, IsLegal}
+use Rattle.ph_book.specs.State.{BookState, entered, IsBook, is_saved_well, records_of}
 use Rattle.ph_book.specs.Stays.{doings_more}
 use Rattle.ph_book.specs.Tickets.{Holds, SpendsOwn}
 
@@ -72,10 +73,10 @@ rows_weight_append (row ∷ rows) more = let rest = rows_weight_append rows more
 
 -- the weight with one happening more
 pub weight_more : (setup : Setup) (past : List Happening) (h : Happening)
-    → weight_after setup (past ++ h ∷ []) ≡ (weight_after setup past + deed_weight h.entry.deed) + rows_weight h.rows
+    → weight_after setup (past ++ h ∷ []) ≡ (weight_after setup past + (deed_weight h.entry.deed + saved_weight h.saves h.said)) + rows_weight h.rows
 weight_more setup past h =
-    let weigh : Happening → ℕ = λ (x : Happening). deed_weight x.entry.deed in
-    let deeds : sum_by weigh (past ++ h ∷ []) ≡ sum_by weigh past + (0 + deed_weight h.entry.deed) = sum_by-append weigh past (h ∷ []) in
+    let weigh : Happening → ℕ = λ (x : Happening). deed_weight x.entry.deed + saved_weight x.saves x.said in
+    let deeds : sum_by weigh (past ++ h ∷ []) ≡ sum_by weigh past + (0 + (deed_weight h.entry.deed + saved_weight h.saves h.said)) = sum_by-append weigh past (h ∷ []) in
     let rows : rows_weight (rows_after setup (past ++ h ∷ [])) ≡ rows_weight (rows_after setup past) + rows_weight h.rows =
     ap rows_weight (rows_more setup past h) ∙ rows_weight_append (rows_after setup past) h.rows in
     omega arith
@@ -120,15 +121,16 @@ allowed_more setup past (first ∷ entries) entry before here =
     (before.0, allowed_more setup (and_then setup past first) entries entry before.1 here)
 
 -- what a deed comes to over what a book keeps is what it comes to after the history
-pub effect_is : (setup : Setup) (history : List Entry) (rows : List Row) (time weight : ℕ) (attempts : List flights.Attempt) (live place : ℕ) (entry : Entry)
-    → IsBook setup history rows time weight attempts live → place ≡ length history + 1
-    → effect_of setup (doings_of setup history) rows time place entry.caller entry.deed ≡ effect_to setup history entry
+pub effect_is : (setup : Setup) (history : List Entry) (rows : List Row) (time weight : ℕ) (attempts : List flights.Attempt) (records : List KeyRecord) (live place : ℕ) (entry : Entry)
+    → IsBook setup history rows time weight attempts records live → place ≡ length history + 1
+    → effect_of setup (keys_after setup (past_of setup history)) (doings_of setup history) rows time place entry.caller entry.deed
+    ≡ effect_to setup history entry
 unfolding rows_of time_of doings_of effect_to
-effect_is setup history rows time weight attempts live place entry b at =
+effect_is setup history rows time weight attempts records live place entry b at =
     let places : place ≡ length (past_of setup history) + 1 = at ∙ ap (λ n. n + 1) (sym (length_past setup history)) in
     let rows_are : rows ≡ rows_after setup (past_of setup history) = b.rows_are in
     let time_is : time ≡ time_after setup (past_of setup history) = b.time_is in
-    ap (λ (p : List Row × (ℕ × ℕ)). effect_of setup (doings_after (past_of setup history)) p.0 p.1.0 p.1.1 entry.caller entry.deed)
+    ap (λ (p : List Row × (ℕ × ℕ)). effect_of setup (keys_after setup (past_of setup history)) (doings_after (past_of setup history)) p.0 p.1.0 p.1.1 entry.caller entry.deed)
     (λ i. (rows_are i, (time_is i, places i)))
 
 -- a legal history with one entry more that may come is legal
@@ -137,14 +139,18 @@ pub legal_more : (setup : Setup) (history : List Entry) (entry : Entry) → IsLe
 legal_more setup history entry legal allowed =
     record { opened = legal.opened; allowed = allowed_more setup [] history entry legal.allowed allowed }
 
--- what a book keeps after one entry more, which comes to these rows, does this, and leaves this time
-pub book_more : (setup : Setup) (history : List Entry) (rows : List Row) (time weight : ℕ) (attempts : List flights.Attempt) (live : ℕ) (entry : Entry)
-    (new : List Row) (does : Doing) (now live' : ℕ) → IsBook setup history rows time weight attempts live
+-- what a book keeps after one entry more, which comes to these rows, does this, saves so much and these records, and leaves this time
+pub book_more : (setup : Setup) (history : List Entry) (rows : List Row) (time weight : ℕ) (attempts : List flights.Attempt) (records : List KeyRecord) (live : ℕ) (entry : Entry)
+    (new : List Row) (does : Doing) (now saved live' : ℕ) (kept : List KeyRecord) → IsBook setup history rows time weight attempts records live
     → IsAllowed setup (past_of setup history) entry → (effect_to setup history entry).rows ≡ new → (effect_to setup history entry).doing ≡ does
-    → (effect_to setup history entry).now ≡ now → live' ≡ length (live_runs (does ∷ doings_of setup history))
-    → IsBook setup (history ++ entry ∷ []) (rows ++ new) now ((weight + deed_weight entry.deed) + rows_weight new) (after_step attempts (step_of does)) live'
+    → (effect_to setup history entry).now ≡ now
+    → saved_weight (effect_to setup history entry).saves (effect_to setup history entry).said ≡ saved
+    → live' ≡ length (live_runs (does ∷ doings_of setup history))
+    → records_of setup (history ++ entry ∷ []) ≡ kept → list_all is_saved_well kept ≡ true
+    → IsBook setup (history ++ entry ∷ []) (rows ++ new) now ((weight + (deed_weight entry.deed + saved)) + rows_weight new)
+    (after_step attempts (step_of does)) kept live'
 unfolding rows_of time_of doings_of effect_to
-book_more setup history rows time weight attempts live entry new does now live' b allowed made done timed counted =
+book_more setup history rows time weight attempts records live entry new does now saved live' kept b allowed made done timed saves counted keeps well =
     let past : List Happening = past_of setup history in
     let h : Happening = happening_of setup past entry in
     let grown : past_of setup (history ++ entry ∷ []) ≡ past ++ h ∷ [] = past_more setup history entry in
@@ -156,28 +162,31 @@ book_more setup history rows time weight attempts live entry new does now live' 
       rows_are = sym (ap (rows_after setup) grown ∙ rows_more setup past h ∙ ap (λ x. x ++ h.rows) (sym rows_are) ∙ ap (λ x. rows ++ x) made);
       time_is = sym (ap (time_after setup) grown ∙ time_more setup past h ∙ timed);
       weight_is = sym (ap (weight_after setup) grown ∙ weight_more setup past h
-          ∙ ap (λ x. (x + deed_weight entry.deed) + rows_weight h.rows) (sym b.weight_is)
-          ∙ ap (λ x. (weight + deed_weight entry.deed) + rows_weight x) made);
+          ∙ ap (λ x. (x + (deed_weight entry.deed + saved_weight h.saves h.said)) + rows_weight h.rows) (sym b.weight_is)
+          ∙ ap (λ x. (weight + (deed_weight entry.deed + x)) + rows_weight h.rows) saves
+          ∙ ap (λ x. (weight + (deed_weight entry.deed + saved)) + rows_weight x) made);
       attempts_are = ap (λ x. after_step x (step_of does)) attempts_are ∙ ap attempts_after doings;
+      records_are = sym keeps;
+      statuses = well;
       live_is = counted ∙ ap (λ x. length (live_runs x)) doings;
       few = b.few;
       legal = legal_more setup history entry b.legal allowed;
     }
 
 -- what a book keeps, by equal values
-pub book_is : (setup : Setup) (history history' : List Entry) (rows rows' : List Row) (time time' weight weight' : ℕ) (attempts attempts' : List flights.Attempt) (live : ℕ)
-    → IsBook setup history rows time weight attempts live → history' ≡ history → rows' ≡ rows → time' ≡ time → weight' ≡ weight → attempts' ≡ attempts
-    → IsBook setup history' rows' time' weight' attempts' live
-book_is setup history history' rows rows' time time' weight weight' attempts attempts' live b e f g h k =
-    subst (λ (p : List Entry × (List Row × (ℕ × (ℕ × List flights.Attempt)))). IsBook setup p.0 p.1.0 p.1.1.0 p.1.1.1.0 p.1.1.1.1 live)
-    (λ i. (sym e i, (sym f i, (sym g i, (sym h i, sym k i))))) b
+pub book_is : (setup : Setup) (history history' : List Entry) (rows rows' : List Row) (time time' weight weight' : ℕ) (attempts attempts' : List flights.Attempt) (records records' : List KeyRecord) (live : ℕ)
+    → IsBook setup history rows time weight attempts records live → history' ≡ history → rows' ≡ rows → time' ≡ time → weight' ≡ weight → attempts' ≡ attempts
+    → records' ≡ records → IsBook setup history' rows' time' weight' attempts' records' live
+book_is setup history history' rows rows' time time' weight weight' attempts attempts' records records' live b e f g h k m =
+    subst (λ (p : List Entry × (List Row × (ℕ × (ℕ × (List flights.Attempt × List KeyRecord))))). IsBook setup p.0 p.1.0 p.1.1.0 p.1.1.1.0 p.1.1.1.1.0 p.1.1.1.1.1 live)
+    (λ i. (sym e i, (sym f i, (sym g i, (sym h i, (sym k i, sym m i)))))) b
 
 -- the program's test of room is that of the history
-pub full_is : (book : BookState) (setup : Setup) (history : List Entry) (rows : List Row) (time weight : ℕ) (attempts : List flights.Attempt) (live used : ℕ) (deed : Deed) (test : Bool)
-    → record { setup = setup; history = history } ≡ book → IsBook setup history rows time weight attempts live → used ≡ length history + live
+pub full_is : (book : BookState) (setup : Setup) (history : List Entry) (rows : List Row) (time weight : ℕ) (attempts : List flights.Attempt) (records : List KeyRecord) (live used : ℕ) (deed : Deed) (test : Bool)
+    → record { setup = setup; history = history } ≡ book → IsBook setup history rows time weight attempts records live → used ≡ length history + live
     → test ≡ is_full_at setup used weight deed → is_full book.setup book.history deed ≡ test
 unfolding is_full doings_of
-full_is book setup history rows time weight attempts live used deed test is b count tested =
+full_is book setup history rows time weight attempts records live used deed test is b count tested =
     let past : List Happening = past_of setup history in
     let size : length past ≡ length history = length_past setup history in
     let counted : live ≡ length (live_runs (doings_after past)) = b.live_is in
@@ -206,6 +215,7 @@ unfolding Holds
 ends_own setup history caller (act.Call raw) own = tt
 ends_own setup history caller (act.Finish ticket ruling) own = (ticket, own)
 ends_own setup history caller (act.Park ticket why) own = (ticket, own)
+ends_own setup history caller act.Resume own = tt
 ends_own setup history caller (act.Tick moment) own = tt
 
 -- the history of a book that an act was entered in is legal
@@ -220,13 +230,15 @@ lawful_entered old new caller a lawful below own clock room is =
     })
 
 -- a book without entries
-pub book_new : (setup : Setup) → setup.opened ≤ clock_limit → setup.entries < 2 ^ 32 → IsBook setup [] (opening_row setup.opened ∷ []) setup.opened 256 [] 0
-unfolding rows_of time_of doings_of
+pub book_new : (setup : Setup) → setup.opened ≤ clock_limit → setup.entries < 2 ^ 32 → IsBook setup [] (opening_row setup.opened ∷ []) setup.opened 256 [] [] 0
+unfolding rows_of time_of doings_of records_of
 book_new setup opened few = record {
   rows_are = refl;
   time_is = refl;
   weight_is = refl;
   attempts_are = refl;
+  records_are = refl;
+  statuses = refl;
   live_is = refl;
   few = few;
   legal = record { opened = opened; allowed = tt };

@@ -15,7 +15,8 @@ use Rattle.ph_book.specs.Callers.{caller_of}
 use Rattle.ph_book.specs.Entries.{call_entry}
 use Rattle.ph_book.specs.History.{said_to}
 use Rattle.ph_book.specs.Legal.{IsLegal}
-use Rattle.ph_book.specs.OwnRuns.{NoMoreOwn, after_call, after_deed, after_end, ended_run, own_of}
+use Rattle.ph_book.specs.Laws.{ended_in}
+use Rattle.ph_book.specs.OwnRuns.{NoMoreOwn, after_call, after_deed, after_end, own_of}
 use Rattle.ph_book.specs.Replies.{Said, Replies, Waits}
 use Rattle.ph_book.specs.Stays.{own_stays}
 use Rattle.ph_book.proofs.GrowthLemmas.{legal_front}
@@ -56,17 +57,18 @@ module _ (setup : Setup) (history : List Entry) (few : setup.entries < 2 ^ 32) (
       ∙ sym ((runs_after setup history few legal (call_entry caller raw)).own run) ∙ live
 
   -- a run of its own that it ended is not live; all that is was live before
-  pub ended_alone : (entry : Entry) (number run : ℕ) (flight : Flight) → ended_run entry.deed ≡ Some number
+  pub ended_alone : (entry : Entry) (number run : ℕ) (flight : Flight) → ended_in entry.deed ≡ Some number
       → own_of setup (history ++ entry ∷ []) entry.caller run ≡ Some flight → (run ≢ number) × (own_of setup history entry.caller run ≡ Some flight)
   ended_alone entry number run flight ends live = at (run == number) refl
     where
       had : Option Flight
       had = own_of setup history entry.caller run
 
-      after : (d : Deed) → ended_run d ≡ Some number → (said : Said) → after_deed entry.caller (length history + 1) d said run had ≡ after_end number run had
+      after : (d : Deed) → ended_in d ≡ Some number → (said : Said) → after_deed entry.caller (length history + 1) d said run had ≡ after_end number run had
       after (deed.Call raw) e said = absurd (cc)
       after (deed.Finish ended ruling) e said = let same : ended ≡ number = cc in ap (λ n. after_end n run had) same
       after (deed.Park ended why) e said = let same : ended ≡ number = cc in ap (λ n. after_end n run had) same
+      after deed.Resume e said = absurd (cc)
       after (deed.Tick moment) e said = absurd (cc)
 
       left : after_end number run had ≡ Some flight
@@ -79,7 +81,7 @@ module _ (setup : Setup) (history : List Entry) (few : setup.entries < 2 ^ 32) (
 -- a call of its own that waits, and later its end of that run: whatever others enter in between, nothing is left live
 pub no_more_ended : (setup : Setup) (history between : List Entry) (caller : ℕ) (raw : Raw) (order : Order) (entry : Entry) → setup.entries < 2 ^ 32
     → IsLegal setup ((history ++ call_entry caller raw ∷ []) ++ between) → said_to setup history (call_entry caller raw) ≡ Waits order
-    → NoneOf caller_of caller between → entry.caller ≡ caller → ended_run entry.deed ≡ Some (length history + 1)
+    → NoneOf caller_of caller between → entry.caller ≡ caller → ended_in entry.deed ≡ Some (length history + 1)
     → NoMoreOwn setup caller history (((history ++ call_entry caller raw ∷ []) ++ between) ++ entry ∷ [])
 no_more_ended setup history between caller raw order entry few legal said none own ends run flight live =
     let called : List Entry = history ++ call_entry caller raw ∷ [] in

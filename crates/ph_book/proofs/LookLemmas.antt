@@ -12,6 +12,7 @@ use Rattle.ph_doings.specs.Parks.{first_in, first_parked as earliest}
 use Rattle.ph_doings.specs.Standings.{is_parked}
 use Rattle.ph_doings.proofs.KeptLists.{attempts_are_unsettled}
 use Rattle.ph_doings.proofs.Queue.{first_parked_is_earliest}
+use Rattle.ph_idem.specs.declared.key_record.KeyRecord.{KeyRecord}
 use Rattle.ph_rows.specs.declared.rows.Row.{Row}
 use Rattle.ph_book.specs.declared.setup.Setup.{Setup}
 use Rattle.ph_book.specs.declared.acts.Entry.{Entry}
@@ -42,9 +43,9 @@ parked_seen past attempts seen lawful kept is =
     subst (λ (b : Bool). (b ≡ true) ↔ SomeParked past) (sym same) (some_of past (earliest past) (first_parked_is_earliest past lawful))
 
 -- what a book sees by the attempts that it keeps
-pub book_sees : (book : BookState) (setup : Setup) (history : List Entry) (rows : List Row) (time weight : ℕ) (attempts : List Attempt) (live : ℕ) (asked : Query) (seen : Bool)
-    → record { setup = setup; history = history } ≡ book → IsBook setup history rows time weight attempts live → seen ≡ is_some (first_parked attempts)
+pub book_sees : (book : BookState) (setup : Setup) (history : List Entry) (rows : List Row) (time weight : ℕ) (attempts : List Attempt) (records : List KeyRecord) (live : ℕ) (asked : Query) (seen : Bool)
+    → record { setup = setup; history = history } ≡ book → IsBook setup history rows time weight attempts records live → seen ≡ is_some (first_parked attempts)
     → Sees book.setup book.history asked seen
-book_sees book setup history rows time weight attempts live query.AnyParked seen is b found =
+book_sees book setup history rows time weight attempts records live query.AnyParked seen is b found =
     subst (λ (x : BookState). Sees x.setup x.history query.AnyParked seen) is
     (parked_seen (doings_of setup history) attempts seen (history_stands setup history b.few b.legal).lawful b.attempts_are found)

@@ -5,7 +5,6 @@ use Rattle.std.proofs.lemmas.Bool.Decides.{nat_tests}
 use Rattle.ph_base.specs.declared.acquirer.Ruling.{Ruling}
 use Rattle.ph_base.specs.declared.acquirer.Why.{Why}
 use Rattle.ph_attempts.specs.Attempts.{is_same_run}
-use Rattle.ph_attempts.specs.Attempts as step
 use Rattle.ph_attempts.specs.declared.flights.Flight.{Flight}
 use Rattle.ph_doings.specs.Doings.{Doing, Leaves, Puts, Edits, Begins, Resumes, Parks, Settles}
 use Rattle.ph_doings.specs.Kept.{step_of}
@@ -17,8 +16,7 @@ use Rattle.ph_book.specs.declared.acts.Act.{Act}
 use Rattle.ph_book.specs.declared.acts.Deed.{Deed}
 use Rattle.ph_book.specs.declared.acts.Deed.TheVariants as deed
 use Rattle.ph_book.specs.declared.acts.Entry.{Entry}
-use Rattle.ph_book.specs.Called.{StepsAs}
-use Rattle.ph_book.specs.Entries.{call_entry, entry_of}
+use Rattle.ph_book.specs.Entries.{call_entry, entry_of, resume_entry}
 use Rattle.ph_book.specs.Hosts as host
 use Rattle.ph_book.specs.History.{doings_of, effect_to, said_to}
 use Rattle.ph_book.specs.Legal.{IsLegal}
@@ -28,47 +26,30 @@ use Rattle.ph_book.specs.Runs.{if_own, own_run}
 use Rattle.ph_book.specs.Stays.{own_stays}
 use Rattle.ph_book.proofs.EffectLemmas.{own_is}
 use Rattle.ph_book.proofs.HistoryLemmas.{doings_grow}
-use Rattle.ph_book.proofs.ReplyLemmas.{IsServedOrWaits, call_steps_to, said_to_call}
 use Rattle.ph_book.proofs.RunLemmas.{finish_does, no_finish, no_park, park_does, run_held, tick_does}
 use Rattle.ph_book.proofs.StandLemmas.{history_stands}
+use Rattle.ph_book.proofs.StartLemmas.{Starts, StepsAs, call_steps, quiet_live, resume_steps_to, starts_live}
 
 -- ---- calls
 
--- a doing without a step leaves each run
-quiet_own : (past : List Doing) (does : Doing) (caller run : ℕ) → step_of does ≡ None → own_run (does ∷ past) caller run ≡ own_run past caller run
-quiet_own past Leaves caller run e = refl
-quiet_own past (Puts intent status) caller run e = refl
-quiet_own past (Edits intent status) caller run e = refl
-quiet_own past (Begins cause intent flight) caller run e = absurd (let no_step : Some (step.Begins flight) ≡ None = e in cc)
-quiet_own past (Resumes intent flight) caller run e = absurd (cc)
-quiet_own past (Parks intent flight) caller run e = absurd (cc)
-quiet_own past (Settles intent flight capture ruling) caller run e = absurd (cc)
-
--- a caller's run that begins
+-- a caller's run that starts
 own_begun : (flight : Flight) (caller : ℕ) (same : Bool) (had : Run) → flight.caller ≡ caller
     → if_own caller (cond same (Flies flight) had) ≡ cond same (Some flight) (if_own caller had)
 own_begun flight caller true had own = ap (λ b. cond b (Some flight) None) (eq-eqb flight.caller caller own)
 own_begun flight caller false had own = refl
 
-begun_own : (past : List Doing) (does : Doing) (flight : Flight) (run : ℕ) → step_of does ≡ Some (step.Begins flight)
+started_own : (past : List Doing) (does : Doing) (flight : Flight) (run : ℕ) → Starts flight (step_of does)
     → own_run (does ∷ past) flight.caller run ≡ cond (run == flight.run) (Some flight) (own_run past flight.caller run)
-begun_own past Leaves flight run e = absurd (cc)
-begun_own past (Puts intent status) flight run e = absurd (cc)
-begun_own past (Edits intent status) flight run e = absurd (cc)
-begun_own past (Begins cause intent other) flight run e =
-    let same : other ≡ flight = cc in
-    ap (λ (f : Flight). if_own flight.caller (cond (run == f.run) (Flies f) (live_run past run))) same
+started_own past does flight run starts =
+    ap (if_own flight.caller) (starts_live past does flight starts run)
     ∙ own_begun flight flight.caller (run == flight.run) (live_run past run) refl
-begun_own past (Resumes intent other) flight run e = absurd (cc)
-begun_own past (Parks intent other) flight run e = absurd (cc)
-begun_own past (Settles intent other capture ruling) flight run e = absurd (cc)
 
--- a caller's live runs after a call to which this is said
-called_own : (past : List Doing) (does : Doing) (caller place : ℕ) (said : Said) (run : ℕ) → StepsAs caller place said (step_of does) → (said ≡ Silence → ⊥)
+-- a caller's live runs after an entry of its own to which this is said
+called_own : (past : List Doing) (does : Doing) (caller place : ℕ) (said : Said) (run : ℕ) → StepsAs caller place said (step_of does)
     → own_run (does ∷ past) caller run ≡ after_call caller place said run (own_run past caller run)
-called_own past does caller place (Replies reply) run steps speaks = quiet_own past does caller run steps
-called_own past does caller place (Waits order) run steps speaks = begun_own past does (record { caller = caller; run = place; order = order }) run steps
-called_own past does caller place Silence run steps speaks = absurd (speaks refl)
+called_own past does caller place (Replies reply) run steps = ap (if_own caller) (quiet_live past does steps run)
+called_own past does caller place (Waits order) run steps = started_own past does (record { caller = caller; run = place; order = order }) run steps
+called_own past does caller place Silence run steps = ap (if_own caller) (quiet_live past does steps run)
 
 -- ---- the ends of runs
 
@@ -155,9 +136,12 @@ module _ (setup : Setup) (history : List Entry) (few : setup.entries < 2 ^ 32) (
       ≡ after_deed caller (length history + 1) d (said_to setup history (record { caller = caller; deed = d })) run (own_run (doings_of setup history) caller run)
   own_done caller run (deed.Call raw) =
       called_own (doings_of setup history) (effect_to setup history (call_entry caller raw)).doing caller (length history + 1) (said_to setup history (call_entry caller raw)) run
-      (call_steps_to setup history caller raw few legal) (λ silent. subst IsServedOrWaits silent (said_to_call setup history caller raw few legal))
+      (call_steps setup history caller raw few legal)
   own_done caller run (deed.Finish number ruling) = finished_own caller number run ruling (own_run (doings_of setup history) caller number) refl
   own_done caller run (deed.Park number why) = parked_own caller number run why (own_run (doings_of setup history) caller number) refl
+  own_done caller run deed.Resume =
+      called_own (doings_of setup history) (effect_to setup history (resume_entry caller)).doing caller (length history + 1) (said_to setup history (resume_entry caller)) run
+      (resume_steps_to setup history caller few legal)
   own_done caller run (deed.Tick moment) = ap (λ d. own_run (d ∷ doings_of setup history) caller run) (tick_does setup history caller moment)
 
   -- what an entry does to the live runs of each caller

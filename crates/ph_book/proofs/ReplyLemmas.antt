@@ -1,5 +1,6 @@
 -- What is said to entries: replies with their statuses.
-use Rattle.std.proofs.Common.{◌≡◌, ◌≢◌, ℕ, ◌+◌, ◌<◌, ◌^◌, ◌∷◌, Bool, true, false, not, ◌==◌, ◌&&◌, ◌||◌, List, [], length, Option, Some, None, refl, sym, ap, ◌∙◌, subst, codes, IsTrue}
+use Rattle.std.proofs.Common.{◌≡◌, ◌≢◌, ℕ, ◌+◌, ◌<◌, ◌^◌, ◌∷◌, Bool, true, false, not, ◌==◌, ◌&&◌, ◌||◌, nat_lt, List, [], length, Option, Some, None, refl, sym, ap, ◌∙◌, subst, codes, IsTrue}
+use Rattle.std.specs.List.{list_all}
 use Rattle.std.specs.Option.{option_or}
 use Rattle.std.proofs.lemmas.Bool.{cond-true, eq-eqb, eqb-true, false≢true}
 use Rattle.ph_base.specs.declared.acquirer.Decline.{Decline}
@@ -8,7 +9,7 @@ use Rattle.ph_base.specs.declared.acquirer.Ruling.TheVariants as ruling
 use Rattle.ph_base.specs.declared.acquirer.Why.TheVariants as why
 use Rattle.ph_base.specs.declared.acquirer.Why.{Why}
 use Rattle.ph_attempts.specs.declared.flights.Flight.{Flight}
-use Rattle.ph_errors.specs.Table.{CardDeclined, NoSuchObject, error_of}
+use Rattle.ph_errors.specs.Table.{CardDeclined, ClockBackwards, KeyDiffers, KeyInUse, NoSuchObject, error_of}
 use Rattle.ph_http.specs.Replies.{is_status}
 use Rattle.ph_http.specs.declared.message.Raw.{Raw}
 use Rattle.ph_http.specs.declared.message.Reply.{Reply}
@@ -18,7 +19,7 @@ use Rattle.ph_rows.specs.Batches.{BatchState, version_with}
 use Rattle.ph_rows.specs.Rows.{latest_of}
 use Rattle.ph_rows.specs.Views.{ViewState}
 use Rattle.ph_rows.specs.declared.rows.Row.{Row}
-use Rattle.ph_facts.specs.Keeps.{IsDone, most_rows}
+use Rattle.ph_facts.specs.Keeps.{IsDone, IsReady, batch_after, most_rows}
 use Rattle.ph_facts.specs.Outcomes.{Outcome, Refuses, Adds}
 use Rattle.ph_facts.specs.Shown.{shown_in, shows}
 use Rattle.ph_facts.specs.Statuses.{status_ruled}
@@ -27,24 +28,39 @@ use Rattle.ph_doings.specs.Doings as doing
 use Rattle.ph_doings.specs.Statuses.{status_of}
 use Rattle.ph_doings.proofs.RowLemmas.{rows_say_past}
 use Rattle.ph_book.specs.Answers.{HasStatus, IsNoPark, Says, is_ruled}
-use Rattle.ph_book.specs.Calls.{Upshot, Rejects, Makes, Shows, Sets, called_at}
-use Rattle.ph_book.specs.Called.{Steps}
+use Rattle.ph_book.specs.declared.judged.Judged.{Judged}
+use Rattle.ph_book.specs.declared.judged.Judged.TheVariants.{Refused, Accepted}
+use Rattle.ph_book.specs.Calls.{Keys, Upshot, Rejects, Replays, Makes, Shows, Sets, by_found, called_at, carried, clock_set, is_fresh, key_asked, opens, request_upshot, resumed_by, resumed_from, resumed_outcome}
+use Rattle.ph_book.specs.Called.{ServesFound}
+use Rattle.ph_book.specs.Keys.{asked_in, request_of}
+use Rattle.ph_calls.specs.declared.call.Call.{Call}
+use Rattle.ph_calls.specs.declared.call.Call.TheVariants as call
+use Rattle.ph_doings.specs.Records.{Found}
+use Rattle.ph_doings.specs.Records as found
+use Rattle.ph_idem.specs.declared.asked.Asked.{Asked}
+use Rattle.ph_idem.specs.declared.key_record.KeyRecord.{KeyRecord}
+use Rattle.ph_idem.specs.declared.key_record.Saved.{Saved}
+use Rattle.ph_idem.specs.Kept.{records_after}
+use Rattle.ph_idem.specs.Records.{found_in, saved_in}
+use Rattle.ph_items.specs.declared.attempts.Attempt.{Attempt}
+use Rattle.ph_items.specs.Items.{attempt_in}
 use Rattle.ph_book.specs.Entries.{call_entry, finish_entry}
-use Rattle.ph_book.specs.History.{call_effect, doings_after, doings_of, effect_after, effect_to, finish_effect, past_of, rows_after, ruled_outcome, said_to, shown_or_waits, time_after}
+use Rattle.ph_book.specs.History.{call_effect, doings_after, doings_of, effect_after, effect_to, finish_effect, keys_after, outcome_said, past_of, reply_at, rows_after, ruled_outcome, said_to, saids_after, shown_or_waits, time_after, turns_after}
 use Rattle.ph_book.specs.Legal.{IsLegal}
-use Rattle.ph_book.specs.State.{BookState, IsBook}
+use Rattle.ph_book.specs.State.{BookState, IsBook, is_reply_well, is_saved_well, records_of}
 use Rattle.ph_book.specs.Tickets.{Holds}
 use Rattle.ph_attempts.specs.declared.flights.Attempt as flights
 use Rattle.ph_book.specs.declared.acts.Entry.{Entry}
 use Rattle.ph_book.specs.declared.setup.Setup.{Setup}
-use Rattle.ph_book.proofs.EffectLemmas.{own_may_end, raw_steps, ruled_done}
+use Rattle.ph_book.proofs.EffectLemmas.{own_may_end, ruled_done}
+use Rattle.ph_book.proofs.ServeLemmas.{records_serve}
 use Rattle.ph_book.proofs.HistoryLemmas.{length_past}
 use Rattle.ph_book.proofs.StandLemmas.{legal_stands, view_after}
 use Rattle.ph_book.specs.Replies.{Said, Replies, Waits, Silence, declined_reply, park_reply, ruling_reply, settled_reply, version_reply}
 use Rattle.ph_book.specs.declared.acts.Answer.{Answer}
 use Rattle.ph_book.specs.declared.acts.Answer.TheVariants as answer
-use Rattle.ph_book.proofs.CallLemmas.{KeepsCall, called_keeps}
-use Rattle.ph_book.proofs.ErrorLemmas.{answered, is_served, refusal_answered}
+use Rattle.ph_book.proofs.CallLemmas.{KeepsCall, KeepsJudged, carried_keeps, judged_keeps}
+use Rattle.ph_book.proofs.ErrorLemmas.{answered, chosen, is_served, refusal_answered}
 
 abbrev pub IsServed : Reply → Type 0
 IsServed reply = is_served reply.status ≡ true
@@ -61,18 +77,78 @@ version_served : (now : ℕ) (rows : List Row) (version : Option Row) → IsServ
 version_served now rows None = answered (NoSuchObject (codes "id"))
 version_served now rows (Some row) = refl
 
+-- a reply that is given once more was served
+abbrev pub AnswersSaved : Upshot → Type 0
+AnswersSaved (Rejects error) = Unit {0}
+AnswersSaved (Replays reply) = is_served reply.status ≡ true
+AnswersSaved (Makes outcome) = Unit {0}
+AnswersSaved (Shows doc) = Unit {0}
+AnswersSaved (Sets moment) = Unit {0}
+
+-- no call gives a saved reply by itself
+clock_saved : (now moment : ℕ) → AnswersSaved (clock_set now moment)
+clock_saved now moment = chosen AnswersSaved (nat_lt moment now) (Makes (Refuses (error_of ClockBackwards))) (Sets moment) tt tt
+
+carried_saved : (rows : List Row) (now : ℕ) (c : Call) (batch : BatchState) → AnswersSaved (carried rows now c batch)
+carried_saved rows now (call.CreateIntent c) batch = tt
+carried_saved rows now (call.UpdateIntent c) batch = tt
+carried_saved rows now (call.ConfirmIntent c) batch = tt
+carried_saved rows now (call.CaptureIntent c) batch = tt
+carried_saved rows now (call.CancelIntent c) batch = tt
+carried_saved rows now (call.CreateRefund c) batch = tt
+carried_saved rows now (call.SendEvidence c) batch = tt
+carried_saved rows now (call.CloseDispute c) batch = tt
+carried_saved rows now (call.GetBalance c) batch = tt
+carried_saved rows now (call.Retrieve c) batch = tt
+carried_saved rows now (call.SetClock c) batch = clock_saved now c.now
+carried_saved rows now (call.Authenticate c) batch = tt
+
 shown_served : (now : ℕ) (rows : List Row) (object : ℕ) (batch : BatchState) (order : Option Order)
     → IsServedOrWaits (shown_or_waits now rows object batch order)
 shown_served now rows object batch None = version_served now rows (version_with rows batch object)
 shown_served now rows object batch (Some order) = tt
 
-pub call_served : (state : ViewState) (place caller : ℕ) (upshot : Upshot) → KeepsCall state upshot
-    → IsServedOrWaits (call_effect None state.rows state.time place caller upshot).said
-call_served state place caller (Rejects error) keeps = keeps
-call_served state place caller (Makes (Refuses error)) keeps = refusal_answered error keeps
-call_served state place caller (Makes (Adds touch object batch)) keeps = shown_served state.time state.rows object batch (order_asked touch)
-call_served state place caller (Shows doc) keeps = refl
-call_served state place caller (Sets moment) keeps = refl
+call_served : (state : ViewState) (key : Option (List ℕ)) (opens_ : Bool) (place caller : ℕ) (upshot : Upshot) → KeepsCall state upshot → AnswersSaved upshot
+    → IsServedOrWaits (call_effect key opens_ state.rows state.time place caller upshot).said
+call_served state key opens_ place caller (Rejects error) keeps saved = keeps
+call_served state key opens_ place caller (Replays reply) keeps saved = saved
+call_served state key opens_ place caller (Makes (Refuses error)) keeps saved = refusal_answered error keeps
+call_served state key opens_ place caller (Makes (Adds touch object batch)) keeps saved = shown_served state.time state.rows object batch (order_asked touch)
+call_served state key opens_ place caller (Shows doc) keeps saved = refl
+call_served state key opens_ place caller (Sets moment) keeps saved = refl
+
+-- what is said where an attempt is taken up again; where there is none, nothing is shown
+resumed_by_served : (now : ℕ) (rows : List Row) (row : Row) (batch : BatchState) (attempt : Option Attempt) → IsServedOrWaits (outcome_said now rows (resumed_by row batch attempt))
+resumed_by_served now rows row batch None = shown_served now rows 0 batch None
+resumed_by_served now rows row batch (Some attempt) = tt
+
+resumed_from_served : (now : ℕ) (rows : List Row) (batch : BatchState) (version : Option Row) → IsServedOrWaits (outcome_said now rows (resumed_from batch version))
+resumed_from_served now rows batch None = shown_served now rows 0 batch None
+resumed_from_served now rows batch (Some row) = resumed_by_served now rows row batch (attempt_in row.item)
+
+-- the replies that are saved under keys are served
+abbrev pub AreServed : Keys → Type 0
+AreServed keys = (asked : Asked) (place : ℕ) → keys.found asked ≡ found.Saved place → is_served (keys.reply place).status ≡ true
+
+found_served : (state : ViewState) (keys : Keys) (place caller : ℕ) (own : Upshot) (asked : Asked) (batch : BatchState) → KeepsCall state own → AnswersSaved own
+    → AreServed keys → (what : Found) → keys.found asked ≡ what
+    → IsServedOrWaits (call_effect (Some asked.key) (is_fresh what) state.rows state.time place caller (by_found keys state.rows batch own what)).said
+found_served state keys place caller own asked batch keeps saved served found.Fresh is = call_served state (Some asked.key) true place caller own keeps saved
+found_served state keys place caller own asked batch keeps saved served found.Differs is = answered KeyDiffers
+found_served state keys place caller own asked batch keeps saved served found.Live is = answered KeyInUse
+found_served state keys place caller own asked batch keeps saved served (found.Parked reference) is = resumed_from_served state.time state.rows batch (latest_of reference state.rows)
+found_served state keys place caller own asked batch keeps saved served (found.Saved at) is = served asked at is
+
+request_served : (state : ViewState) (keys : Keys) (place caller : ℕ) (judged : Judged) → IsReady state → KeepsJudged judged → AreServed keys
+    → IsServedOrWaits (call_effect (key_asked (asked_in judged)) (opens keys (asked_in judged)) state.rows state.time place caller
+    (request_upshot keys state.rows state.time (batch_after state place) judged)).said
+request_served state keys place caller (Refused error) ready keeps served = keeps
+request_served state keys place caller (Accepted c None) ready keeps served =
+    call_served state None false place caller (carried state.rows state.time c (batch_after state place)) (carried_keeps state place c ready keeps)
+    (carried_saved state.rows state.time c (batch_after state place))
+request_served state keys place caller (Accepted c (Some asked)) ready keeps served =
+    found_served state keys place caller (carried state.rows state.time c (batch_after state place)) asked (batch_after state place)
+    (carried_keeps state place c ready keeps) (carried_saved state.rows state.time c (batch_after state place)) served (keys.found asked) refl
 
 -- ---- rulings
 
@@ -149,6 +225,10 @@ ruled_status status is = at (status == 200) (status == 402) refl refl is
 pub says_reply : (place caller : ℕ) (said : Said) (reply : Reply) → said ≡ Replies reply → Says place caller said (answer.Reply reply)
 says_reply place caller said reply is = subst (λ (s : Said). Says place caller s (answer.Reply reply)) (sym is) refl
 
+pub says_wait : (place caller : ℕ) (said : Said) (order : Order) (ticket : Flight) → said ≡ Waits order
+    → ticket ≡ record { caller = caller; run = place; order = order } → Says place caller said (answer.Wait ticket)
+says_wait place caller said order ticket is ticket_is = subst (λ (s : Said). Says place caller s (answer.Wait ticket)) (sym is) ticket_is
+
 -- nothing is said where Done answers
 pub says_silence : (place caller : ℕ) (said : Said) → said ≡ Silence → Says place caller said answer.Done
 says_silence place caller said is = subst (λ (s : Said). Says place caller s answer.Done) (sym is) tt
@@ -162,25 +242,40 @@ park_status why.NoMemory = refl
 
 -- ---- after a legal history
 
--- what is said to a call
-pub said_to_call : (setup : Setup) (history : List Entry) (caller : ℕ) (raw : Raw) → setup.entries < 2 ^ 32 → IsLegal setup history
-    → IsServedOrWaits (said_to setup history (call_entry caller raw))
-unfolding effect_to
-said_to_call setup history caller raw few legal =
-    let stood = legal_stands setup history few legal in
-    let past = past_of setup history in
-    call_served (view_after setup past) (length past + 1) caller (called_at setup.key (rows_after setup past) (time_after setup past) (length past + 1) raw)
-    (called_keeps setup.key (view_after setup past) (length past + 1) raw stood.stands.ready)
+-- a record that is found has a reply of a served status
+saved_well : (records : List KeyRecord) (entry : ℕ) (reply : Saved) → list_all is_saved_well records ≡ true → saved_in entry records ≡ Some reply
+    → is_served reply.status ≡ true
+saved_well [] entry reply well is = absurd (cc)
+saved_well (kept ∷ records) entry reply well is = at (kept.entry == entry) refl (both (is_saved_well kept) (list_all is_saved_well records) well)
+    (saved_well records entry reply)
+  where
+    both : (a b : Bool) → (a && b) ≡ true → (a ≡ true) × (b ≡ true)
+    both true true e = (refl, refl)
+    both true false e = absurd (cc)
+    both false b e = absurd (cc)
 
--- and what is done to attempts by it
-pub call_steps_to : (setup : Setup) (history : List Entry) (caller : ℕ) (raw : Raw) → setup.entries < 2 ^ 32 → IsLegal setup history
-    → Steps caller (length history + 1) (effect_to setup history (call_entry caller raw))
-unfolding effect_to
-call_steps_to setup history caller raw few legal =
+    at : (here : Bool) → (kept.entry == entry) ≡ here → (is_saved_well kept ≡ true) × (list_all is_saved_well records ≡ true)
+        → (list_all is_saved_well records ≡ true → saved_in entry records ≡ Some reply → is_served reply.status ≡ true) → is_served reply.status ≡ true
+    at true e wells more =
+        let same : kept.result ≡ Some reply = rw e at is in
+        sym (ap is_reply_well same) ∙ wells.0
+    at false e wells more = more wells.1 (rw e at is)
+
+-- what is said to a call
+pub said_to_call : (setup : Setup) (history : List Entry) (records : List KeyRecord) (caller : ℕ) (raw : Raw) → setup.entries < 2 ^ 32 → IsLegal setup history
+    → records ≡ records_of setup history → list_all is_saved_well records ≡ true → IsServedOrWaits (said_to setup history (call_entry caller raw))
+unfolding effect_to called_at records_of
+said_to_call setup history records caller raw few legal kept well =
     let stood = legal_stands setup history few legal in
     let past = past_of setup history in
-    subst (λ n. Steps caller (n + 1) (effect_after setup past (call_entry caller raw))) (length_past setup history)
-    (raw_steps setup (view_after setup past) (doings_after past) (length past + 1) caller raw stood.stands.ready)
+    let keys = keys_after setup past in
+    let serve = records_serve setup past stood in
+    request_served (view_after setup past) keys (length past + 1) caller (request_of setup.key raw) stood.stands.ready (judged_keeps setup.key raw)
+    (λ asked place is.
+    let there = subst (λ (what : Found). ServesFound keys (rows_after setup past) (records_after (reply_at (saids_after past)) setup.opened (turns_after setup past)) what
+    (found_in asked.account asked.key asked.shape (time_after setup past) (records_after (reply_at (saids_after past)) setup.opened (turns_after setup past)))) is (serve asked) in
+    saved_well (records_after (reply_at (saids_after past)) setup.opened (turns_after setup past)) there.entry (keys.reply place)
+    (ap (list_all is_saved_well) (sym kept) ∙ well) there.reply_is)
 
 -- what is said to a ruling on a live run
 pub said_to_finish : (setup : Setup) (history : List Entry) (caller : ℕ) (ticket : Flight) (how : Ruling) (reply : Reply) → setup.entries < 2 ^ 32
@@ -194,29 +289,22 @@ said_to_finish setup history caller ticket how reply few legal holds said =
     let ruled = ruling_ruled (view_after setup past) most_rows may.intent ticket.order may.processing.intent.capture_method how
     (ruled_outcome (rows_after setup past) (time_after setup past) (length past + 1) ticket.order.reference how)
     (ruled_done (view_after setup past) (doings_after past) (length past + 1) ticket how stood.stands may) in
-    let here = ap (λ found. (finish_effect None (rows_after setup past) (time_after setup past) (length past + 1) how found).said) (sym holds) ∙ said in
+    let here = ap (λ found. (finish_effect (keys_after setup past) (rows_after setup past) (time_after setup past) (length past + 1) how found).said) (sym holds) ∙ said in
     let same : ruling_reply (time_after setup past) (rows_after setup past) how (ruled_outcome (rows_after setup past) (time_after setup past) (length past + 1) ticket.order.reference how) ≡ reply = cc in
     subst (λ (r : Reply). is_ruled r.status ≡ true) same ruled
 
 -- ---- over what a book keeps
 
-pub finish_ruled : (old : BookState) (setup : Setup) (history : List Entry) (rows : List Row) (time weight : ℕ) (attempts : List flights.Attempt) (live caller : ℕ) (ticket : Flight) (how : Ruling) (reply : Reply)
-    → record { setup = setup; history = history } ≡ old → IsBook setup history rows time weight attempts live → Holds old.setup old.history caller ticket
+pub finish_ruled : (old : BookState) (setup : Setup) (history : List Entry) (rows : List Row) (time weight : ℕ) (attempts : List flights.Attempt) (records : List KeyRecord) (live caller : ℕ) (ticket : Flight) (how : Ruling) (reply : Reply)
+    → record { setup = setup; history = history } ≡ old → IsBook setup history rows time weight attempts records live → Holds old.setup old.history caller ticket
     → said_to old.setup old.history (finish_entry caller ticket how) ≡ Replies reply → is_ruled reply.status ≡ true
-finish_ruled old setup history rows time weight attempts live caller ticket how reply is b holds said =
+finish_ruled old setup history rows time weight attempts records live caller ticket how reply is b holds said =
     said_to_finish setup history caller ticket how reply b.few b.legal (subst (λ (x : BookState). Holds x.setup x.history caller ticket) (sym is) holds)
     (subst (λ (x : BookState). said_to x.setup x.history (finish_entry caller ticket how) ≡ Replies reply) (sym is) said)
 
-pub call_answered : (old : BookState) (setup : Setup) (history : List Entry) (rows : List Row) (time weight : ℕ) (attempts : List flights.Attempt) (live place caller : ℕ) (raw : Raw) (given : Answer)
-    → record { setup = setup; history = history } ≡ old → IsBook setup history rows time weight attempts live
+pub call_answered : (old : BookState) (setup : Setup) (history : List Entry) (rows : List Row) (time weight : ℕ) (attempts : List flights.Attempt) (records : List KeyRecord) (live place caller : ℕ) (raw : Raw) (given : Answer)
+    → record { setup = setup; history = history } ≡ old → IsBook setup history rows time weight attempts records live
     → Says place caller (said_to old.setup old.history (call_entry caller raw)) given → HasStatus given × IsNoPark given
-call_answered old setup history rows time weight attempts live place caller raw given is b says =
-    says_served place caller (said_to setup history (call_entry caller raw)) given (said_to_call setup history caller raw b.few b.legal)
+call_answered old setup history rows time weight attempts records live place caller raw given is b says =
+    says_served place caller (said_to setup history (call_entry caller raw)) given (said_to_call setup history records caller raw b.few b.legal b.records_are b.statuses)
     (subst (λ (x : BookState). Says place caller (said_to x.setup x.history (call_entry caller raw)) given) (sym is) says)
-
-pub call_steps_of : (old : BookState) (setup : Setup) (history : List Entry) (rows : List Row) (time weight : ℕ) (attempts : List flights.Attempt) (live caller : ℕ) (raw : Raw)
-    → record { setup = setup; history = history } ≡ old → IsBook setup history rows time weight attempts live
-    → Steps caller (length old.history + 1) (effect_to old.setup old.history (call_entry caller raw))
-call_steps_of old setup history rows time weight attempts live caller raw is b =
-    subst (λ (x : BookState). Steps caller (length x.history + 1) (effect_to x.setup x.history (call_entry caller raw))) is
-    (call_steps_to setup history caller raw b.few b.legal)

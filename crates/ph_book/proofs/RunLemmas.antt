@@ -1,5 +1,5 @@
 -- The live runs after one entry more.
-use Rattle.std.proofs.Common.{◌≡◌, ◌≢◌, ℕ, zero, suc, ◌+◌, ◌^◌, ◌<◌, ◌≤◌, ◌==◌, ◌∷◌, ◌++◌, nat_le, Bool, true, false, List, [], length, Option, Some, None, refl, sym, ap, ◌∙◌, subst, arith}
+use Rattle.std.proofs.Common.{◌≡◌, ◌≢◌, ℕ, zero, suc, ◌+◌, ◌^◌, ◌<◌, ◌≤◌, ◌==◌, ◌∷◌, ◌++◌, nat_le, cond, Bool, true, false, List, [], length, Option, Some, None, refl, sym, ap, ◌∙◌, subst, arith}
 use Rattle.std.specs.List.{list_all}
 use Rattle.std.proofs.lemmas.Bool.{cond-true, eq-eqb}
 use Rattle.std.proofs.lemmas.Bool.Decides.{nat_tests}
@@ -11,9 +11,6 @@ use Rattle.ph_attempts.specs.declared.flights.Flight.{Flight}
 use Rattle.ph_http.specs.declared.message.Raw.{Raw}
 use Rattle.ph_items.specs.declared.intents.CaptureMethod.{CaptureMethod}
 use Rattle.ph_facts.specs.Keeps.{most_rows}
-use Rattle.ph_facts.specs.Outcomes.{Refuses, Adds}
-use Rattle.ph_facts.specs.Touches as touch
-use Rattle.ph_rows.specs.Views.{ViewState}
 use Rattle.ph_doings.specs.Doings.{Doing, Leaves, Puts, Edits, Begins, Resumes, Parks, Settles, doing_of}
 use Rattle.ph_doings.specs.Kept.{step_of}
 use Rattle.ph_doings.specs.Lawful.{IsLawful}
@@ -26,19 +23,17 @@ use Rattle.ph_book.specs.declared.setup.Setup.{Setup}
 use Rattle.ph_book.specs.declared.acts.Entry.{Entry}
 use Rattle.ph_book.specs.declared.acts.Deed.{Deed}
 use Rattle.ph_book.specs.declared.acts.Deed.TheVariants as deed
-use Rattle.ph_book.specs.Calls.{Upshot, Rejects, Makes, Shows, Sets, called_at}
-use Rattle.ph_book.specs.Called.{Steps, StepsAs}
-use Rattle.ph_book.specs.Entries.{call_entry, finish_entry, park_entry}
-use Rattle.ph_book.specs.History.{call_effect, doings_of, effect_to, finish_effect, park_effect, past_of, rows_after, rows_of, time_after, time_of, view_of}
+use Rattle.ph_book.specs.Entries.{call_entry, finish_entry, park_entry, resume_entry}
+use Rattle.ph_book.specs.History.{doings_of, effect_to, finish_effect, keys_after, park_effect, past_of, rows_after, rows_of, time_after, time_of, view_of}
 use Rattle.ph_book.specs.Laws.{RunsFollow, ended_in}
 use Rattle.ph_book.specs.Legal.{IsLegal}
-use Rattle.ph_book.specs.Replies.{Said}
+use Rattle.ph_book.specs.Replies.{Said, Replies, Waits, Silence}
 use Rattle.ph_book.specs.Runs.{if_own, own_run}
 use Rattle.ph_book.specs.Tickets.{Holds}
-use Rattle.ph_book.proofs.EffectLemmas.{done_touch, own_is, own_may_end, parked_done, raw_steps, ruled_done}
-use Rattle.ph_book.proofs.CallLemmas.{KeepsCall, called_keeps}
+use Rattle.ph_book.proofs.EffectLemmas.{done_touch, own_is, own_may_end, parked_done, ruled_done}
 use Rattle.ph_book.proofs.HistoryLemmas.{doings_grow, length_past}
 use Rattle.ph_book.proofs.StandLemmas.{history_stands, legal_stands}
+use Rattle.ph_book.proofs.StartLemmas.{Starts, StepsAs, call_steps, quiet_live, resume_steps_to, starts_live}
 
 -- ---- doings
 
@@ -52,19 +47,10 @@ quiet_runs past (Resumes intent flight) lawful e = absurd (cc)
 quiet_runs past (Parks intent flight) lawful e = absurd (cc)
 quiet_runs past (Settles intent flight capture ruling) lawful e = absurd (cc)
 
--- one that begins a run puts it behind them
-begun_runs : (past : List Doing) (does : Doing) (flight : Flight) → step_of does ≡ Some (step.Begins flight) → flight.run ≡ suc (length past)
+-- a run that starts comes behind them
+started_runs : (past : List Doing) (does : Doing) (flight : Flight) → Starts flight (step_of does) → flight.run ≡ suc (length past)
     → live_runs (does ∷ past) ≡ live_runs past ++ flight ∷ []
-begun_runs past Leaves flight e at = absurd (cc)
-begun_runs past (Puts intent status) flight e at = absurd (cc)
-begun_runs past (Edits intent status) flight e at = absurd (cc)
-begun_runs past (Begins cause intent other) flight e at =
-    let same : other ≡ flight = cc in
-    subst (λ (f : Flight). live_runs (Begins cause intent other ∷ past) ≡ live_runs past ++ f ∷ []) same
-    (begun_last past (Begins cause intent other) other (λ run. refl) (ap (λ (f : Flight). f.run) same ∙ at))
-begun_runs past (Resumes intent other) flight e at = absurd (cc)
-begun_runs past (Parks intent other) flight e at = absurd (cc)
-begun_runs past (Settles intent other capture ruling) flight e at = absurd (cc)
+started_runs past does flight starts at = begun_last past does flight (starts_live past does flight starts) at
 
 -- live runs up to a number have no greater ones
 up_to_numbered : (past : List Doing) (number most : ℕ) → HasLiveRuns past → number ≤ most
@@ -93,15 +79,6 @@ places_of : (setup : Setup) (history : List Entry) → setup.entries < 2 ^ 32 �
 unfolding doings_of
 places_of setup history few legal = (legal_stands setup history few legal).places ∙ length_past setup history
 
--- the step of a call, by what is said to it
-call_step : (setup : Setup) (history : List Entry) (caller : ℕ) (raw : Raw) → setup.entries < 2 ^ 32 → IsLegal setup history
-    → Steps caller (length history + 1) (effect_to setup history (call_entry caller raw))
-unfolding rows_of time_of doings_of effect_to
-call_step setup history caller raw few legal =
-    let stands = history_stands setup history few legal in
-    subst (λ n. Steps caller (n + 1) (effect_to setup history (call_entry caller raw))) (length_past setup history)
-    (raw_steps setup (view_of setup history) (doings_of setup history) (length (past_of setup history) + 1) caller raw stands.ready)
-
 -- a ruling on a live run settles it
 pub finish_does : (setup : Setup) (history : List Entry) (caller : ℕ) (ticket : Flight) (ruling : Ruling) → setup.entries < 2 ^ 32 → IsLegal setup history
     → Holds setup history caller ticket
@@ -114,7 +91,7 @@ finish_does setup history caller ticket ruling few legal holds =
     let place = length (past_of setup history) + 1 in (
       may.intent,
       may.processing.intent.capture_method,
-      ap (λ (run : Option Flight). (finish_effect None (rows_of setup history) (time_of setup history) place ruling run).doing) own
+      ap (λ (run : Option Flight). (finish_effect (keys_after setup (past_of setup history)) (rows_of setup history) (time_of setup history) place ruling run).doing) own
           ∙ ap (doing_of ticket.caller ticket.run) (done_touch (view_of setup history) most_rows _ may.intent _ (ruled_done (view_of setup history) (doings_of setup history) place ticket ruling stands may)),
     )
 
@@ -129,48 +106,22 @@ park_does setup history caller ticket why few legal holds =
     let may = own_may_end (view_of setup history) (doings_of setup history) caller ticket.run ticket stands own in
     let place = length (past_of setup history) + 1 in (
       may.intent,
-      ap (λ (run : Option Flight). (park_effect None (rows_of setup history) (time_of setup history) place why run).doing) own
+      ap (λ (run : Option Flight). (park_effect (rows_of setup history) (time_of setup history) place why run).doing) own
           ∙ ap (doing_of ticket.caller ticket.run) (done_touch (view_of setup history) most_rows _ 0 _ (parked_done (view_of setup history) place may.intent ticket.order stands.ready may.attempt)),
     )
 
 -- ---- a run stays
 
--- a call does nothing, or begins the run of its place
-abbrev BeginsAt : ℕ → Doing → Type 0
-BeginsAt place Leaves = Unit {0}
-BeginsAt place (Puts intent status) = Unit {0}
-BeginsAt place (Edits intent status) = Unit {0}
-BeginsAt place (Begins cause intent flight) = flight.run ≡ place
-BeginsAt place (Resumes intent flight) = ⊥
-BeginsAt place (Parks intent flight) = ⊥
-BeginsAt place (Settles intent flight capture ruling) = ⊥
-
-upshot_begins : (state : ViewState) (place caller : ℕ) (upshot : Upshot) → KeepsCall state upshot
-    → BeginsAt place (call_effect None state.rows state.time place caller upshot).doing
-upshot_begins state place caller (Rejects error) keeps = tt
-upshot_begins state place caller (Makes (Refuses error)) keeps = tt
-upshot_begins state place caller (Makes (Adds touch.Untouched object batch)) keeps = tt
-upshot_begins state place caller (Makes (Adds (touch.Puts intent status) object batch)) keeps = tt
-upshot_begins state place caller (Makes (Adds (touch.Edits intent status) object batch)) keeps = tt
-upshot_begins state place caller (Makes (Adds (touch.Begins cause intent order) object batch)) keeps = refl
-upshot_begins state place caller (Makes (Adds (touch.Resumes intent order) object batch)) keeps = absurd keeps.1
-upshot_begins state place caller (Makes (Adds (touch.Parks intent order) object batch)) keeps = absurd keeps.1
-upshot_begins state place caller (Makes (Adds (touch.Settles intent order capture ruling) object batch)) keeps = absurd keeps.1
-upshot_begins state place caller (Shows doc) keeps = tt
-upshot_begins state place caller (Sets moment) keeps = tt
-
--- which leaves every other run as it is
-begun_still : (past : List Doing) (does : Doing) (flight : Flight) → HasLiveRuns past → BeginsAt (suc (length past)) does
-    → live_run past flight.run ≡ Flies flight → live_run (does ∷ past) flight.run ≡ Flies flight
-begun_still past Leaves flight holds begins flies = flies
-begun_still past (Puts intent status) flight holds begins flies = flies
-begun_still past (Edits intent status) flight holds begins flies = flies
-begun_still past (Begins cause intent other) flight holds begins flies =
+-- an entry to which this is said starts the run of its place, or none, which leaves every other run as it is
+started_still : (past : List Doing) (does : Doing) (caller place : ℕ) (said : Said) (flight : Flight) → HasLiveRuns past → place ≡ suc (length past)
+    → StepsAs caller place said (step_of does) → live_run past flight.run ≡ Flies flight → live_run (does ∷ past) flight.run ≡ Flies flight
+started_still past does caller place (Replies reply) flight holds at steps flies = quiet_live past does steps flight.run ∙ flies
+started_still past does caller place (Waits order) flight holds at steps flies =
     let known = run_known past flight.run flight holds flies in
-    let apart : (flight.run == other.run) ≡ false = grind (arith, nat_tests, known, begins) in rw apart flies
-begun_still past (Resumes intent other) flight holds begins flies = absurd begins
-begun_still past (Parks intent other) flight holds begins flies = absurd begins
-begun_still past (Settles intent other capture ruling) flight holds begins flies = absurd begins
+    let apart : (flight.run == place) ≡ false = grind (arith, nat_tests, known, at) in
+    starts_live past does (record { caller = caller; run = place; order = order }) steps flight.run
+    ∙ ap (λ b. cond b (Flies (record { caller = caller; run = place; order = order })) (live_run past flight.run)) apart ∙ flies
+started_still past does caller place Silence flight holds at steps flies = quiet_live past does steps flight.run ∙ flies
 
 -- an end of another run leaves it too
 ended_still : (past : List Doing) (other flight : Flight) → (other.caller ≡ flight.caller → other.run ≢ flight.run)
@@ -211,29 +162,18 @@ pub no_finish : (setup : Setup) (history : List Entry) (caller run : ℕ) (rulin
     → (effect_to setup history (record { caller = caller; deed = deed.Finish run ruling })).doing ≡ Leaves
 unfolding doings_of effect_to
 no_finish setup history caller run ruling none =
-    ap (λ (found : Option Flight). (finish_effect None (rows_after setup (past_of setup history)) (time_after setup (past_of setup history)) (length (past_of setup history) + 1) ruling found).doing) none
+    ap (λ (found : Option Flight). (finish_effect (keys_after setup (past_of setup history)) (rows_after setup (past_of setup history)) (time_after setup (past_of setup history)) (length (past_of setup history) + 1) ruling found).doing) none
 
 pub no_park : (setup : Setup) (history : List Entry) (caller run : ℕ) (why : Why) → own_run (doings_of setup history) caller run ≡ None
     → (effect_to setup history (record { caller = caller; deed = deed.Park run why })).doing ≡ Leaves
 unfolding doings_of effect_to
 no_park setup history caller run why none =
-    ap (λ (found : Option Flight). (park_effect None (rows_after setup (past_of setup history)) (time_after setup (past_of setup history)) (length (past_of setup history) + 1) why found).doing) none
+    ap (λ (found : Option Flight). (park_effect (rows_after setup (past_of setup history)) (time_after setup (past_of setup history)) (length (past_of setup history) + 1) why found).doing) none
 
 pub tick_does : (setup : Setup) (history : List Entry) (caller moment : ℕ)
     → (effect_to setup history (record { caller = caller; deed = deed.Tick moment })).doing ≡ Leaves
 unfolding effect_to
 tick_does setup history caller moment = refl
-
-call_begins : (setup : Setup) (history : List Entry) (caller : ℕ) (raw : Raw) → setup.entries < 2 ^ 32 → IsLegal setup history
-    → BeginsAt (suc (length (doings_of setup history))) (effect_to setup history (call_entry caller raw)).doing
-unfolding rows_of time_of doings_of effect_to
-call_begins setup history caller raw few legal =
-    let stood = legal_stands setup history few legal in
-    let places = stood.places in
-    let place = length (past_of setup history) + 1 in
-    subst (λ n. BeginsAt n (effect_to setup history (call_entry caller raw)).doing) (omega (arith, places))
-    (upshot_begins (view_of setup history) place caller (called_at setup.key (rows_of setup history) (time_of setup history) place raw)
-    (called_keeps setup.key (view_of setup history) place raw stood.stands.ready))
 
 -- the run of a ticket stays live until its own caller's end of it
 still_held : (setup : Setup) (history : List Entry) (entry : Entry) (caller : ℕ) (ticket : Flight) → setup.entries < 2 ^ 32 → IsLegal setup history
@@ -246,6 +186,9 @@ still_held setup history entry caller ticket few legal holds ends = at entry.dee
 
     lawful : IsLawful past
     lawful = (history_stands setup history few legal).lawful
+
+    place : length history + 1 ≡ suc (length past)
+    place = let count = places_of setup history few legal in omega (arith, count)
 
     own : ticket.caller ≡ caller
     own = (held_run setup history caller ticket lawful holds).1
@@ -283,9 +226,15 @@ still_held setup history entry caller ticket few legal holds ends = at entry.dee
     at (deed.Call raw) is =
         still_by setup history entry caller ticket (effect_to setup history (call_entry entry.caller raw)).doing lawful holds
         (ap (λ d. (effect_to setup history (record { caller = entry.caller; deed = d })).doing) is)
-        (begun_still past (effect_to setup history (call_entry entry.caller raw)).doing ticket (sound past lawful).live (call_begins setup history entry.caller raw few legal))
+        (started_still past (effect_to setup history (call_entry entry.caller raw)).doing entry.caller (length history + 1) _ ticket (sound past lawful).live place
+        (call_steps setup history entry.caller raw few legal))
     at (deed.Finish run ruling) is = finished run ruling is (own_run past entry.caller run) refl
     at (deed.Park run why) is = parked run why is (own_run past entry.caller run) refl
+    at deed.Resume is =
+        still_by setup history entry caller ticket (effect_to setup history (resume_entry entry.caller)).doing lawful holds
+        (ap (λ d. (effect_to setup history (record { caller = entry.caller; deed = d })).doing) is)
+        (started_still past (effect_to setup history (resume_entry entry.caller)).doing entry.caller (length history + 1) _ ticket (sound past lawful).live place
+        (resume_steps_to setup history entry.caller few legal))
     at (deed.Tick moment) is =
         still_by setup history entry caller ticket Leaves lawful holds
         (ap (λ d. (effect_to setup history (record { caller = entry.caller; deed = d })).doing) is ∙ tick_does setup history entry.caller moment) (λ flies. flies)
@@ -294,14 +243,23 @@ still_held setup history entry caller ticket few legal holds ends = at entry.dee
 pub runs_follow : (setup : Setup) (history : List Entry) → setup.entries < 2 ^ 32 → IsLegal setup history → RunsFollow setup history
 runs_follow setup history few legal = record {
   answered = λ caller raw reply said.
-      let step : step_of (effect_to setup history (call_entry caller raw)).doing ≡ None =
-      subst (λ (s : Said). StepsAs caller (length history + 1) s (step_of (effect_to setup history (call_entry caller raw)).doing)) said (call_step setup history caller raw few legal) in
-      ap live_runs (doings_grow setup history (call_entry caller raw)) ∙ quiet_runs past (effect_to setup history (call_entry caller raw)).doing lawful step;
+      ap live_runs (doings_grow setup history (call_entry caller raw))
+      ∙ quiet_runs past (effect_to setup history (call_entry caller raw)).doing lawful
+      (subst (λ (s : Said). StepsAs caller (length history + 1) s (step_of (effect_to setup history (call_entry caller raw)).doing)) said (call_steps setup history caller raw few legal));
   begun = λ caller raw order said.
-      let flight : Flight = record { caller = caller; run = length history + 1; order = order } in
-      let step : step_of (effect_to setup history (call_entry caller raw)).doing ≡ Some (step.Begins flight) =
-      subst (λ (s : Said). StepsAs caller (length history + 1) s (step_of (effect_to setup history (call_entry caller raw)).doing)) said (call_step setup history caller raw few legal) in
-      ap live_runs (doings_grow setup history (call_entry caller raw)) ∙ begun_runs past (effect_to setup history (call_entry caller raw)).doing flight step (omega (arith, places));
+      ap live_runs (doings_grow setup history (call_entry caller raw))
+      ∙ started_runs past (effect_to setup history (call_entry caller raw)).doing (record { caller = caller; run = length history + 1; order = order })
+      (subst (λ (s : Said). StepsAs caller (length history + 1) s (step_of (effect_to setup history (call_entry caller raw)).doing)) said (call_steps setup history caller raw few legal))
+      (omega (arith, places));
+  passed = λ caller said.
+      ap live_runs (doings_grow setup history (resume_entry caller))
+      ∙ quiet_runs past (effect_to setup history (resume_entry caller)).doing lawful
+      (subst (λ (s : Said). StepsAs caller (length history + 1) s (step_of (effect_to setup history (resume_entry caller)).doing)) said (resume_steps_to setup history caller few legal));
+  taken = λ caller order said.
+      ap live_runs (doings_grow setup history (resume_entry caller))
+      ∙ started_runs past (effect_to setup history (resume_entry caller)).doing (record { caller = caller; run = length history + 1; order = order })
+      (subst (λ (s : Said). StepsAs caller (length history + 1) s (step_of (effect_to setup history (resume_entry caller)).doing)) said (resume_steps_to setup history caller few legal))
+      (omega (arith, places));
   settled = λ caller ticket ruling holds.
       let does = finish_does setup history caller ticket ruling few legal holds in
       ap live_runs (doings_grow setup history (finish_entry caller ticket ruling) ∙ ap (λ d. d ∷ past) does.2)

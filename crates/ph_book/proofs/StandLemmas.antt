@@ -22,10 +22,11 @@ use Rattle.ph_book.specs.declared.setup.Setup.{Setup}
 use Rattle.ph_book.specs.declared.acts.Entry.{Entry}
 use Rattle.ph_book.specs.declared.acts.Deed.{Deed}
 use Rattle.ph_book.specs.declared.acts.Deed.TheVariants as deed
-use Rattle.ph_book.specs.History.{Happening, and_then, doings_after, doings_of, effect_after, finish_effect, happening_of, opening_row, park_effect, past_of, rows_after, rows_of, time_after, time_of, view_of}
+use Rattle.ph_book.specs.History.{Happening, and_then, doings_after, doings_of, effect_after, finish_effect, happening_of, keys_after, opening_row, park_effect, past_of, rows_after, rows_of, time_after, time_of, view_of}
 use Rattle.ph_book.specs.Legal.{AreAllowed, EndsOwn, IsAllowed, IsLegal, is_full_after, raw_weight, used_after, weight_after}
 use Rattle.ph_book.specs.Stays.{doings_more}
 use Rattle.ph_book.proofs.EffectLemmas.{Comes, Stands, effect_comes, finish_ends, park_ends}
+use Rattle.ph_book.proofs.KeyLemmas.{keys_text, knows_parked}
 use Rattle.ph_book.proofs.HistoryLemmas.{rows_more, time_more}
 
 -- the view after what happened
@@ -48,6 +49,11 @@ call_left : (setup : Setup) (past : List Happening) (raw : Raw) → is_full_afte
 call_left setup past raw room =
     let few : nat_lt setup.entries (used_after past + 2) ≡ false =
     or_false (nat_lt setup.entries (used_after past + 2)) (nat_lt setup.weight (weight_after setup past + raw_weight raw)) room in
+    grind (arith, nat_tests)
+
+resume_left : (setup : Setup) (past : List Happening) → is_full_after setup past deed.Resume ≡ false → used_after past + 2 ≤ setup.entries
+resume_left setup past room =
+    let few : nat_lt setup.entries (used_after past + 2) ≡ false = room in
     grind (arith, nat_tests)
 
 tick_left : (setup : Setup) (past : List Happening) (moment : ℕ) → is_full_after setup past (deed.Tick moment) ≡ false → used_after past + 1 ≤ setup.entries
@@ -75,23 +81,34 @@ used_more setup past caller (deed.Call raw) stood own room does is counted =
     let few = begun_few does in
     omega (arith, left, few, counted)
 used_more setup past caller (deed.Finish run ruling) stood own room does is counted =
-    let ends = finish_ends (view_after setup past) (doings_after past) (length past + 1) caller run ruling own.0 stood.stands own.1 in
-    let same = ap (λ found. (finish_effect None (rows_after setup past) (time_after setup past) (length past + 1) ruling found).doing) own.1 in
+    let ends = finish_ends (view_after setup past) (keys_after setup past) (doings_after past) (length past + 1) caller run ruling own.0 stood.stands own.1 in
+    let same = ap (λ found. (finish_effect (keys_after setup past) (rows_after setup past) (time_after setup past) (length past + 1) ruling found).doing) own.1 in
     let here : runs_ended does ≡ 1 = ap runs_ended (sym is ∙ same) ∙ ends.0 in
     let none : runs_begun does ≡ 0 = ap runs_begun (sym is ∙ same) ∙ ends.1 in
     let used = stood.used in
     omega (arith, used, here, none, counted)
 used_more setup past caller (deed.Park run why) stood own room does is counted =
     let ends = park_ends (view_after setup past) (doings_after past) (length past + 1) caller run why own.0 stood.stands own.1 in
-    let same = ap (λ found. (park_effect None (rows_after setup past) (time_after setup past) (length past + 1) why found).doing) own.1 in
+    let same = ap (λ found. (park_effect (rows_after setup past) (time_after setup past) (length past + 1) why found).doing) own.1 in
     let here : runs_ended does ≡ 1 = ap runs_ended (sym is ∙ same) ∙ ends.0 in
     let none : runs_begun does ≡ 0 = ap runs_begun (sym is ∙ same) ∙ ends.1 in
     let used = stood.used in
     omega (arith, used, here, none, counted)
+used_more setup past caller deed.Resume stood own room does is counted =
+    let left = resume_left setup past room in
+    let few = begun_few does in
+    omega (arith, left, few, counted)
 used_more setup past caller (deed.Tick moment) stood own room does is counted =
     let left = tick_left setup past moment room in
     let none : runs_begun does ≡ 0 = ap runs_begun (sym is) in
     omega (arith, left, none, counted)
+
+-- what an entry comes to that may come
+pub comes_next : (setup : Setup) (past : List Happening) (entry : Entry) → HasStood setup past → IsAllowed setup past entry
+    → Comes (view_after setup past) (doings_after past) (effect_after setup past entry)
+comes_next setup past entry stood allowed =
+    effect_comes setup (view_after setup past) (keys_after setup past) (doings_after past) (length past + 1) entry.caller entry.deed stood.stands
+    (let same = stood.places in omega (arith, same)) allowed.clock (knows_parked setup past) (keys_text setup past)
 
 -- one entry more that may come
 pub stood_more : (setup : Setup) (past : List Happening) (entry : Entry) → setup.entries < 2 ^ 32 → HasStood setup past → IsAllowed setup past entry
@@ -119,9 +136,7 @@ stood_more setup past entry small stood allowed = record {
     one = let longer : length next ≡ length past + 1 = length-append past (h ∷ []) in omega (arith, longer)
 
     comes : Comes (view_after setup past) (doings_after past) (effect_after setup past entry)
-    comes =
-        effect_comes setup (view_after setup past) (doings_after past) (length past + 1) entry.caller entry.deed stood.stands
-        (let same = stood.places in omega (arith, same)) allowed.clock
+    comes = comes_next setup past entry stood allowed
 
     lawful : IsLawful (h.doing ∷ doings_after past)
     lawful = (comes.may, stood.stands.lawful)

@@ -48,9 +48,16 @@ IsRuled (answer.Reply reply) = is_ruled reply.status ≡ true
 IsRuled (answer.Wait ticket) = ⊥
 IsRuled answer.Done = ⊥
 
--- what the answers to a deed are: a call is answered by a reply or waits, a ruling by the payment intent or the decline, a park by the reply of its reason, and a moment by none
+-- the answer is no reply
+abbrev pub IsNoReply : Answer → Type 0
+IsNoReply (answer.Reply reply) = ⊥
+IsNoReply (answer.Wait ticket) = Unit {0}
+IsNoReply answer.Done = Unit {0}
+
+-- what the answers to a deed are: a call is answered by a reply or waits, a ruling by the payment intent or the decline, a park by the reply of its reason, and the taking up of an attempt and a moment by none
 abbrev pub IsAnswerTo : Deed → Answer → Type 0
 IsAnswerTo (deed.Call raw) given = IsNoPark given
 IsAnswerTo (deed.Finish run ruling) given = IsRuled given
 IsAnswerTo (deed.Park run why) given = given ≡ answer.Reply (park_reply why)
+IsAnswerTo deed.Resume given = IsNoReply given
 IsAnswerTo (deed.Tick moment) given = given ≡ answer.Done

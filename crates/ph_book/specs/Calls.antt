@@ -1,13 +1,12 @@
 -- What a call comes to, in the order of its refusals.
 use Rattle.std.specs.Prelude.{ℕ, Bool, true, false, not, nat_lt, if◌then◌else◌, List, length, Option, Some, None, Result, Ok, Err, codes, bytes_eq}
 use Rattle.ph_base.specs.declared.ids.Kind.{Kind}
-use Rattle.ph_base.specs.declared.ids.Kind.TheVariants as kind
 use Rattle.ph_rows.specs.declared.rows.Row.{Row}
-use Rattle.ph_rows.specs.Batches.{BatchState, empty_batch}
+use Rattle.ph_rows.specs.Batches.{BatchState, empty_batch, with_row}
 use Rattle.ph_rows.specs.Names.{owned_named}
 use Rattle.ph_json.specs.declared.doc.Doc.{Doc}
 use Rattle.ph_errors.specs.declared.api_error.ApiError.{ApiError}
-use Rattle.ph_errors.specs.Table.{ClockBackwards, InvalidApiKey, NoSuchAccount, NoSuchObject, error_of}
+use Rattle.ph_errors.specs.Table.{ClockBackwards, KeyDiffers, KeyInUse, NoSuchObject, error_of}
 use Rattle.ph_http.specs.declared.message.Raw.{Raw}
 use Rattle.ph_kinds.specs.declared.authentication.Authentication.{Authentication}
 use Rattle.ph_kinds.specs.declared.authentication.Authentication.TheVariants.{Succeeded, Failed}
@@ -15,12 +14,22 @@ use Rattle.ph_calls.specs.declared.call.Authenticate.{Authenticate}
 use Rattle.ph_calls.specs.declared.call.CreateIntent.{CreateIntent}
 use Rattle.ph_calls.specs.declared.call.Call.{Call}
 use Rattle.ph_calls.specs.declared.call.Call.TheVariants as call
-use Rattle.ph_calls.specs.Reading.{reading_of}
 use Rattle.ph_facts.specs.Outcomes.{Outcome, Refuses, Adds}
-use Rattle.ph_facts.specs.Touches.{Untouched}
+use Rattle.ph_facts.specs.Touches.{Untouched, Resumes}
+use Rattle.ph_doings.specs.Records.{Found}
+use Rattle.ph_doings.specs.Records as found
+use Rattle.ph_idem.specs.declared.asked.Asked.{Asked}
+use Rattle.ph_idem.specs.declared.key_record.Saved.{Saved}
+use Rattle.ph_items.specs.declared.attempts.Attempt.{Attempt}
+use Rattle.ph_items.specs.declared.attempts.AttemptState.TheVariants as state
+use Rattle.ph_items.specs.declared.items.Item.TheVariants as item
+use Rattle.ph_items.specs.Items.{attempt_in}
+use Rattle.ph_rows.specs.Rows.{latest_of}
+use Rattle.ph_book.specs.declared.judged.Judged.{Judged}
+use Rattle.ph_book.specs.declared.judged.Judged.TheVariants.{Refused, Accepted}
+use Rattle.ph_book.specs.Keys.{request_of}
 use Rattle.ph_views.specs.Balances.{balance_doc}
 use Rattle.ph_items.specs.Accounts.{platform}
-use Rattle.ph_views.specs.Values.{printed_id}
 use Rattle.ph_intents.specs.Authenticate.{authenticate_outcome, fail_authentication_outcome}
 use Rattle.ph_intents.specs.Cancel.{cancel_outcome}
 use Rattle.ph_intents.specs.Capture.{capture_outcome}
@@ -31,16 +40,6 @@ use Rattle.ph_refunds.specs.Refunds.{refund_outcome}
 use Rattle.ph_disputes.specs.Answers.{evidence_outcome}
 use Rattle.ph_disputes.specs.Closing.{close_outcome}
 use Rattle.ph_disputes.specs.Due.{open_due_of}
-
--- the credentials are the key of the setup
-abbrev pub is_key : List ℕ → Option (List ℕ) → Bool
-is_key key None = false
-is_key key (Some given) = bytes_eq given key
-
--- the account that a request names is the platform's own, which no header means too; no other account is there yet
-abbrev pub is_platform : Option (List ℕ) → Bool
-is_platform None = true
-is_platform (Some name) = bytes_eq name (printed_id kind.Account platform)
 
 -- a retrieve: it shows the version found, and adds nothing
 abbrev pub found_outcome : Option Row → BatchState → Outcome
@@ -67,9 +66,10 @@ and_opened rows (Refuses error) = Refuses error
 and_opened rows (Adds touch object batch) = Adds touch object (open_due_of rows object batch)
 
 -- what a request comes to: it is rejected, since it is no call that may be carried out; or its call has an outcome over the rows,
--- shows a document, or sets the clock to a moment
+-- shows a document, or sets the clock to a moment; or a reply that was saved is given once more
 pub data Upshot : Type 0 where
   Rejects : ApiError → Upshot
+  Replays : Saved → Upshot
   Makes : Outcome → Upshot
   Shows : Doc → Upshot
   Sets : ℕ → Upshot
@@ -93,14 +93,64 @@ carried rows now (call.Retrieve c) batch = Makes (retrieved rows c.kind c.id bat
 carried rows now (call.SetClock c) batch = clock_set now c.now
 carried rows now (call.Authenticate c) batch = Makes (authenticated rows c batch c.outcome)
 
--- what a request comes to that is read so: as it is refused, or as its call is carried out
-abbrev pub read_upshot : List Row → ℕ → Result Call ApiError → BatchState → Upshot
-read_upshot rows now (Err error) batch = Rejects error
-read_upshot rows now (Ok call) batch = carried rows now call batch
+-- what the keys of the calls before a request say of it: what it finds under its key, the reply of an entry, and the key of the call that began an attempt
+pub record Keys : Type 0 where
+  pub found : Asked → Found
+  pub reply : ℕ → Saved
+  pub key : ℕ → Option (List ℕ)
+
+-- a version of an attempt by which it is live again, where a row is one of an attempt
+abbrev pub resumed_by : Row → BatchState → Option Attempt → Outcome
+resumed_by row batch None = Adds Untouched 0 batch
+resumed_by row batch (Some attempt) =
+    Adds (Resumes attempt.intent attempt.order) row.object
+    (with_row batch row.object row.account (item.Attempt (record attempt { state = state.Live })))
+
+-- the same, where there is a row
+abbrev pub resumed_from : BatchState → Option Row → Outcome
+resumed_from batch None = Adds Untouched 0 batch
+resumed_from batch (Some row) = resumed_by row batch (attempt_in row.item)
+
+-- the attempt of a reference is taken up again
+abbrev pub resumed_outcome : List Row → ℕ → BatchState → Outcome
+resumed_outcome rows reference batch = resumed_from batch (latest_of reference rows)
+
+-- what a call with a key comes to by what it finds: where it finds no record, what it comes to by itself; where its attempt is parked, that is taken up again under the same reference; where a reply is saved, that
+abbrev pub by_found : Keys → List Row → BatchState → Upshot → Found → Upshot
+by_found keys rows batch own found.Fresh = own
+by_found keys rows batch own found.Differs = Rejects (error_of KeyDiffers)
+by_found keys rows batch own found.Live = Rejects (error_of KeyInUse)
+by_found keys rows batch own (found.Parked reference) = Makes (resumed_outcome rows reference batch)
+by_found keys rows batch own (found.Saved place) = Replays (keys.reply place)
+
+-- what a call comes to that asks this under a key, or has none
+abbrev pub keyed_upshot : Keys → List Row → BatchState → Upshot → Option Asked → Upshot
+keyed_upshot keys rows batch own None = own
+keyed_upshot keys rows batch own (Some asked) = by_found keys rows batch own (keys.found asked)
+
+-- what a request comes to of which the steps before its own make this
+abbrev pub request_upshot : Keys → List Row → ℕ → BatchState → Judged → Upshot
+request_upshot keys rows now batch (Refused error) = Rejects error
+request_upshot keys rows now batch (Accepted call asked) = keyed_upshot keys rows batch (carried rows now call batch) asked
 
 -- what a request comes to, over these rows at this time, as the entry of a place, where this is the key of the setup
-unfoldable pub called_at : List ℕ → List Row → ℕ → ℕ → Raw → Upshot
-called_at key rows now place raw =
-    if not (is_key key raw.auth) then Rejects (error_of InvalidApiKey) else
-    (if not (is_platform raw.account) then Rejects (error_of NoSuchAccount) else
-    read_upshot rows now (reading_of raw) (empty_batch (length rows) now place))
+unfoldable pub called_at : Keys → List ℕ → List Row → ℕ → ℕ → Raw → Upshot
+called_at keys key rows now place raw = request_upshot keys rows now (empty_batch (length rows) now place) (request_of key raw)
+
+-- nothing was found under a key
+abbrev pub is_fresh : Found → Bool
+is_fresh found.Fresh = true
+is_fresh found.Differs = false
+is_fresh found.Live = false
+is_fresh (found.Parked reference) = false
+is_fresh (found.Saved place) = false
+
+-- a call opens a record: it asks this under a key under which nothing is found
+abbrev pub opens : Keys → Option Asked → Bool
+opens keys None = false
+opens keys (Some asked) = is_fresh (keys.found asked)
+
+-- the key that a request has whose call may be carried out
+abbrev pub key_asked : Option Asked → Option (List ℕ)
+key_asked None = None
+key_asked (Some asked) = Some asked.key

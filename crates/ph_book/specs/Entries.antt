@@ -16,6 +16,7 @@ abbrev pub deed_of : Act → Deed
 deed_of (act.Call raw) = deed.Call raw
 deed_of (act.Finish ticket ruling) = deed.Finish ticket.run ruling
 deed_of (act.Park ticket why) = deed.Park ticket.run why
+deed_of act.Resume = deed.Resume
 deed_of (act.Tick moment) = deed.Tick moment
 
 -- the entry of an act of a caller
@@ -34,6 +35,10 @@ finish_entry caller ticket ruling = record { caller = caller; deed = deed.Finish
 abbrev pub park_entry : ℕ → Flight → Why → Entry
 park_entry caller ticket why = record { caller = caller; deed = deed.Park ticket.run why }
 
+-- the entry by which the attempt that waits longest is taken up again
+abbrev pub resume_entry : ℕ → Entry
+resume_entry caller = record { caller = caller; deed = deed.Resume }
+
 -- the entry of a moment of the clock
 abbrev pub tick_entry : ℕ → ℕ → Entry
 tick_entry caller moment = record { caller = caller; deed = deed.Tick moment }
@@ -43,11 +48,21 @@ abbrev pub IsWithinClock : Deed → Type 0
 IsWithinClock (deed.Call raw) = Unit {0}
 IsWithinClock (deed.Finish run ruling) = Unit {0}
 IsWithinClock (deed.Park run why) = Unit {0}
+IsWithinClock deed.Resume = Unit {0}
 IsWithinClock (deed.Tick moment) = moment ≤ clock_limit
+
+-- an entry of this deed may take an attempt up again: a call, under its key, and the act that does so
+abbrev pub TakesUp : Deed → Type 0
+TakesUp (deed.Call raw) = Unit {0}
+TakesUp (deed.Finish run ruling) = ⊥
+TakesUp (deed.Park run why) = ⊥
+TakesUp deed.Resume = Unit {0}
+TakesUp (deed.Tick moment) = ⊥
 
 -- the act is never refused: a park has its room and its memory from the beginning of its run
 abbrev pub IsGranted : Act → Type 0
 IsGranted (act.Call raw) = ⊥
 IsGranted (act.Finish ticket ruling) = ⊥
 IsGranted (act.Park ticket why) = Unit {0}
+IsGranted act.Resume = ⊥
 IsGranted (act.Tick moment) = ⊥

@@ -31,9 +31,9 @@ use Rattle.ph_book.specs.declared.acts.Deed.{Deed}
 use Rattle.ph_book.specs.declared.acts.Deed.TheVariants as deed
 use Rattle.ph_book.specs.declared.acts.Entry.{Entry}
 use Rattle.ph_book.specs.declared.setup.Setup.{Setup}
-use Rattle.ph_book.specs.Entries.{call_entry, finish_entry, park_entry}
+use Rattle.ph_book.specs.Entries.{call_entry, finish_entry, park_entry, resume_entry}
 use Rattle.ph_book.specs.History.{doings_of, said_to}
-use Rattle.ph_book.specs.Replies.{Replies, Waits}
+use Rattle.ph_book.specs.Replies.{Replies, Waits, Silence}
 use Rattle.ph_book.specs.Tickets.{Holds}
 
 -- the printed id of a row's object
@@ -109,6 +109,7 @@ abbrev pub ended_in : Deed → Option ℕ
 ended_in (deed.Call raw) = None
 ended_in (deed.Finish run ruling) = Some run
 ended_in (deed.Park run why) = Some run
+ended_in deed.Resume = None
 ended_in (deed.Tick moment) = None
 
 -- the live runs after one entry more
@@ -119,6 +120,12 @@ pub record RunsFollow (setup : Setup) (history : List Entry) : Type 0 where
   -- the run of a call that waits stands behind them
   pub begun : (caller : ℕ) (raw : Raw) (order : Order) → said_to setup history (call_entry caller raw) ≡ Waits order
       → runs_of setup (history ++ call_entry caller raw ∷ [])
+      ≡ runs_of setup history ++ record { caller = caller; run = length history + 1; order = order } ∷ []
+  -- so does that of the run by which an attempt is taken up again; where none is parked, they stay as they are
+  pub passed : (caller : ℕ) → said_to setup history (resume_entry caller) ≡ Silence
+      → runs_of setup (history ++ resume_entry caller ∷ []) ≡ runs_of setup history
+  pub taken : (caller : ℕ) (order : Order) → said_to setup history (resume_entry caller) ≡ Waits order
+      → runs_of setup (history ++ resume_entry caller ∷ [])
       ≡ runs_of setup history ++ record { caller = caller; run = length history + 1; order = order } ∷ []
   -- a ruling on a caller's own run, and the park of it, take it out
   pub settled : (caller : ℕ) (ticket : Flight) (ruling : Ruling) → Holds setup history caller ticket

@@ -1,5 +1,5 @@
 -- What a history weighs, what has no room behind it, and which histories are legal.
-use Rattle.std.specs.Prelude.{◌≡◌, ℕ, ◌+◌, ◌^◌, ◌<◌, ◌≤◌, Bool, false, ◌||◌, nat_lt, List, [], ◌∷◌, length, Option, Some, None}
+use Rattle.std.specs.Prelude.{◌≡◌, ℕ, ◌+◌, ◌^◌, ◌<◌, ◌≤◌, Bool, false, if◌then◌else◌, ◌||◌, nat_lt, List, [], ◌∷◌, length, Option, Some, None}
 use Rattle.std.specs.List.{sum_by}
 use Rattle.ph_doings.specs.Doings.{Doing}
 use Rattle.ph_doings.specs.Runs.{live_runs}
@@ -12,6 +12,7 @@ use Rattle.ph_book.specs.declared.acts.Deed.{Deed}
 use Rattle.ph_book.specs.declared.acts.Deed.TheVariants as deed
 use Rattle.ph_book.specs.Entries.{IsWithinClock}
 use Rattle.ph_book.specs.History.{Happening, rows_after, doings_after, and_then, past_of}
+use Rattle.ph_book.specs.Replies.{Said, replies_said}
 use Rattle.ph_book.specs.Runs.{IsLive}
 
 -- the length of a text that may be missing
@@ -30,22 +31,33 @@ abbrev pub deed_weight : Deed → ℕ
 deed_weight (deed.Call raw) = raw_weight raw
 deed_weight (deed.Finish run ruling) = 0
 deed_weight (deed.Park run why) = 0
+deed_weight deed.Resume = 0
 deed_weight (deed.Tick moment) = 0
 
--- the weight of what happened: that of the calls, and that of the rows
+-- what the bodies weigh that an entry saves: that of its reply, where it is saved for a call under a key
+abbrev pub saved_weight : Bool → Said → ℕ
+saved_weight saves said = if saves then sum_by (λ reply. length reply.body) (replies_said said) else 0
+
+-- the weight of what happened: that of the calls and of the saved bodies, and that of the rows
 abbrev pub weight_after : Setup → List Happening → ℕ
-weight_after setup past = sum_by (λ h. deed_weight h.entry.deed) past + rows_weight (rows_after setup past)
+weight_after setup past =
+    sum_by (λ h. deed_weight h.entry.deed + saved_weight h.saves h.said) past + rows_weight (rows_after setup past)
+
+-- the weight of a history
+abbrev pub weight_of : Setup → List Entry → ℕ
+weight_of setup history = weight_after setup (past_of setup history)
 
 -- the places that are taken after what happened: each entry, and the end of each live run
 abbrev pub used_after : List Happening → ℕ
 used_after past = length past + length (live_runs (doings_after past))
 
--- a deed has no room where so many places are taken and so much weighs: a call takes two places, and its weight; a moment takes one; the end of a run has its place from the run's beginning
+-- a deed has no room where so many places are taken and so much weighs: a call takes two places, and its weight; the taking up of an attempt takes two; a moment takes one; the end of a run has its place from the run's beginning
 abbrev pub is_full_at : Setup → ℕ → ℕ → Deed → Bool
 is_full_at setup used weight (deed.Call raw) =
     nat_lt setup.entries (used + 2) || nat_lt setup.weight (weight + raw_weight raw)
 is_full_at setup used weight (deed.Finish run ruling) = false
 is_full_at setup used weight (deed.Park run why) = false
+is_full_at setup used weight deed.Resume = nat_lt setup.entries (used + 2)
 is_full_at setup used weight (deed.Tick moment) = nat_lt setup.entries (used + 1)
 
 -- a deed has no room after what happened
@@ -61,6 +73,7 @@ abbrev pub EndsOwn : List Doing → ℕ → Deed → Type 0
 EndsOwn past caller (deed.Call raw) = Unit {0}
 EndsOwn past caller (deed.Finish run ruling) = IsLive past caller run
 EndsOwn past caller (deed.Park run why) = IsLive past caller run
+EndsOwn past caller deed.Resume = Unit {0}
 EndsOwn past caller (deed.Tick moment) = Unit {0}
 
 -- an entry may come after what happened

@@ -1,6 +1,7 @@
 pub mod Entries
 pub mod Replies
 pub mod Answers
+pub mod Keys
 pub mod Calls
 pub mod Runs
 pub mod History
@@ -13,6 +14,7 @@ pub mod Stores
 pub mod Called
 pub mod State
 pub mod Laws
+pub mod KeyLaws
 pub mod Callers
 pub mod Stays
 pub mod Plain

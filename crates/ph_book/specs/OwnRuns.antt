@@ -9,7 +9,7 @@ use Rattle.ph_book.specs.History.{doings_of, said_to}
 use Rattle.ph_book.specs.Replies.{Said, Replies, Waits, Silence}
 use Rattle.ph_book.specs.Runs.{own_run}
 
--- a caller's live run of a number, where it had this one: after a call of its own at a place, to which this is said. Where the call waits, the run of its place is live
+-- a caller's live run of a number, where it had this one: after a call of its own at a place, or the taking up of an attempt, to which this is said. Where it waits, the run of its place is live
 abbrev pub after_call : ℕ → ℕ → Said → ℕ → Option Flight → Option Flight
 after_call caller place (Replies reply) run had = had
 after_call caller place (Waits order) run had =
@@ -25,14 +25,8 @@ abbrev pub after_deed : ℕ → ℕ → Deed → Said → ℕ → Option Flight 
 after_deed caller place (deed.Call raw) said run had = after_call caller place said run had
 after_deed caller place (deed.Finish number ruling) said run had = after_end number run had
 after_deed caller place (deed.Park number why) said run had = after_end number run had
+after_deed caller place deed.Resume said run had = after_call caller place said run had
 after_deed caller place (deed.Tick moment) said run had = had
-
--- the number of the run that a deed is to end
-abbrev pub ended_run : Deed → Option ℕ
-ended_run (deed.Call raw) = None
-ended_run (deed.Finish number ruling) = Some number
-ended_run (deed.Park number why) = Some number
-ended_run (deed.Tick moment) = None
 
 -- the live runs of a caller after a history
 abbrev pub own_of : Setup → List Entry → ℕ → ℕ → Option Flight

@@ -1,5 +1,5 @@
 -- Replies, and what is said to an entry.
-use Rattle.std.specs.Prelude.{ℕ, false, List, [], ◌∷◌, Option, Some, None, codes}
+use Rattle.std.specs.Prelude.{ℕ, true, false, List, [], ◌∷◌, Option, Some, None, codes}
 use Rattle.ph_base.specs.declared.acquirer.Decline.{Decline}
 use Rattle.ph_base.specs.declared.acquirer.Ruling.{Ruling}
 use Rattle.ph_base.specs.declared.acquirer.Ruling.TheVariants as ruling
@@ -12,6 +12,7 @@ use Rattle.ph_errors.specs.declared.api_error.ApiError.{ApiError}
 use Rattle.ph_errors.specs.Table.{Problem, AcquirerPending, AcquirerFailed, CardDeclined, NoMemory, NoSuchObject, error_of}
 use Rattle.ph_errors.specs.Body.{body_of}
 use Rattle.ph_http.specs.declared.message.Reply.{Reply}
+use Rattle.ph_idem.specs.declared.key_record.Saved.{Saved}
 use Rattle.ph_facts.specs.Outcomes.{Outcome, Refuses, Adds}
 use Rattle.ph_json.specs.declared.doc.Doc.{Doc}
 use Rattle.ph_json.specs.Text.{text_of}
@@ -24,6 +25,10 @@ error_reply_with error intent = record { status = error.status; body = body_of e
 -- the reply of an error
 abbrev pub error_reply : ApiError → Reply
 error_reply error = error_reply_with error None
+
+-- a reply that was saved, given once more
+abbrev pub replayed_reply : Saved → Reply
+replayed_reply saved = record { status = saved.status; body = saved.body; replayed = true; retry = false }
 
 -- an object that isn't there
 abbrev pub nothing_reply : Reply

@@ -1,5 +1,5 @@
 -- What is allowed stays allowed while others act. The lemmas stand here, beside the definitions, and call no tactic, since a law of the book as an object needs them.
-use Rattle.std.specs.Prelude.{◌≡◌, ◌≢◌, ℕ, suc, ◌+◌, ◌==◌, cond, List, [], ◌∷◌, ◌++◌, length, Option, Some, None}
+use Rattle.std.specs.Prelude.{◌≡◌, ◌≢◌, ℕ, suc, ◌+◌, ◌==◌, cond, Bool, List, [], ◌∷◌, ◌++◌, length, Option, Some, None}
 use Rattle.std.specs.List.{fold}
 use Rattle.std.proofs.Common.{refl, sym, ap, ◌∙◌, subst}
 use Rattle.std.proofs.lemmas.Bool.{eqb-true, ne_eqb}
@@ -8,7 +8,10 @@ use Rattle.std.proofs.lemmas.Option.{cond_some, none-some}
 use Rattle.ph_base.specs.declared.acquirer.Ruling.{Ruling}
 use Rattle.ph_base.specs.declared.acquirer.Why.{Why}
 use Rattle.ph_attempts.specs.declared.flights.Flight.{Flight}
+use Rattle.ph_items.specs.declared.orders.Order.{Order}
 use Rattle.ph_rows.specs.declared.rows.Row.{Row}
+use Rattle.ph_rows.specs.Batches.{empty_batch}
+use Rattle.ph_doings.specs.Parks.{first_parked}
 use Rattle.ph_facts.specs.Outcomes.{Outcome}
 use Rattle.ph_doings.specs.Doings.{Doing, doing_of}
 use Rattle.ph_doings.specs.Runs.{Run, NoRun, Flies, live_run}
@@ -21,20 +24,28 @@ use Rattle.ph_book.specs.declared.acts.Entry.{Entry}
 use Rattle.ph_book.specs.declared.acts.Deed.{Deed}
 use Rattle.ph_book.specs.declared.acts.Deed.TheVariants as deed
 use Rattle.ph_book.specs.Callers.{caller_of}
-use Rattle.ph_book.specs.Calls.{Upshot, Rejects, Makes, Shows, Sets, called_at}
-use Rattle.ph_book.specs.History.{Happening, and_then, call_effect, doings_after, doings_of, effect_of, finish_effect, happening_of, park_effect, parked_outcome, past_of, rows_after, ruled_outcome, outcome_touch, time_after}
+use Rattle.ph_book.specs.Calls.{Keys, Upshot, Rejects, Replays, Makes, Shows, Sets, called_at, key_asked, opens, resumed_outcome}
+use Rattle.ph_book.specs.Keys.{asked_in, request_of}
+use Rattle.ph_book.specs.History.{Happening, and_then, call_effect, doings_after, doings_of, effect_of, finish_effect, happening_of, keys_after, park_effect, parked_outcome, past_of, resume_effect, rows_after, ruled_outcome, outcome_touch, time_after}
 use Rattle.ph_book.specs.Hosts.{Allows}
 use Rattle.ph_book.specs.Runs.{if_own, own_run}
 use Rattle.ph_book.specs.Tickets.{Holds, SpendsOwn}
 
 -- ---- who does what
 
-call_is_of : (past : List Doing) (rows : List Row) (now place caller : ℕ) (upshot : Upshot) → IsNumbered past caller place
-    → IsOf caller past (call_effect None rows now place caller upshot).doing
-call_is_of past rows now place caller (Rejects error) numbered = tt
-call_is_of past rows now place caller (Makes outcome) numbered = touch_is_of past caller place (outcome_touch outcome) numbered
-call_is_of past rows now place caller (Shows doc) numbered = tt
-call_is_of past rows now place caller (Sets moment) numbered = tt
+call_is_of : (past : List Doing) (key : Option (List ℕ)) (opens : Bool) (rows : List Row) (now place caller : ℕ) (upshot : Upshot) → IsNumbered past caller place
+    → IsOf caller past (call_effect key opens rows now place caller upshot).doing
+call_is_of past key opens rows now place caller (Rejects error) numbered = tt
+call_is_of past key opens rows now place caller (Replays saved) numbered = tt
+call_is_of past key opens rows now place caller (Makes outcome) numbered = touch_is_of past caller place (outcome_touch outcome) numbered
+call_is_of past key opens rows now place caller (Shows doc) numbered = tt
+call_is_of past key opens rows now place caller (Sets moment) numbered = tt
+
+resume_is_of : (past : List Doing) (rows : List Row) (now place caller : ℕ) (first : Option Order) → IsNumbered past caller place
+    → IsOf caller past (resume_effect rows now place caller first).doing
+resume_is_of past rows now place caller None numbered = tt
+resume_is_of past rows now place caller (Some order) numbered =
+    touch_is_of past caller place (outcome_touch (resumed_outcome rows order.reference (empty_batch (length rows) now place))) numbered
 
 -- the live run of a caller is live, and the caller's
 own_parts : (caller : ℕ) (run : Run) (flight : Flight) → if_own caller run ≡ Some flight → (run ≡ Flies flight) × (flight.caller ≡ caller)
@@ -51,27 +62,29 @@ end_is_of past caller run outcome flight e numbered =
     subst (λ of. IsOf of past (doing_of flight.caller flight.run (outcome_touch outcome))) own.1
     (touch_is_of past flight.caller flight.run (outcome_touch outcome) (Again flight live refl))
 
-finish_is_of : (past : List Doing) (rows : List Row) (now place caller run : ℕ) (ruling : Ruling) (found : Option Flight) → own_run past caller run ≡ found
-    → AreNumbered past → IsOf caller past (finish_effect None rows now place ruling found).doing
-finish_is_of past rows now place caller run ruling None e numbered = tt
-finish_is_of past rows now place caller run ruling (Some flight) e numbered =
+finish_is_of : (past : List Doing) (keys : Keys) (rows : List Row) (now place caller run : ℕ) (ruling : Ruling) (found : Option Flight) → own_run past caller run ≡ found
+    → AreNumbered past → IsOf caller past (finish_effect keys rows now place ruling found).doing
+finish_is_of past keys rows now place caller run ruling None e numbered = tt
+finish_is_of past keys rows now place caller run ruling (Some flight) e numbered =
     end_is_of past caller run (ruled_outcome rows now place flight.order.reference ruling) flight e numbered
 
 park_is_of : (past : List Doing) (rows : List Row) (now place caller run : ℕ) (why : Why) (found : Option Flight) → own_run past caller run ≡ found
-    → AreNumbered past → IsOf caller past (park_effect None rows now place why found).doing
+    → AreNumbered past → IsOf caller past (park_effect rows now place why found).doing
 park_is_of past rows now place caller run why None e numbered = tt
 park_is_of past rows now place caller run why (Some flight) e numbered =
     end_is_of past caller run (parked_outcome rows now place flight.order.reference) flight e numbered
 
 -- what a deed comes to is of its caller
-effect_is_of : (setup : Setup) (past : List Doing) (rows : List Row) (now place caller : ℕ) (d : Deed) → IsNumbered past caller place → AreNumbered past
-    → IsOf caller past (effect_of setup past rows now place caller d).doing
-effect_is_of setup past rows now place caller (deed.Call raw) numbered all =
-    call_is_of past rows now place caller (called_at setup.key rows now place raw) numbered
-effect_is_of setup past rows now place caller (deed.Finish run ruling) numbered all =
-    finish_is_of past rows now place caller run ruling (own_run past caller run) refl all
-effect_is_of setup past rows now place caller (deed.Park run why) numbered all = park_is_of past rows now place caller run why (own_run past caller run) refl all
-effect_is_of setup past rows now place caller (deed.Tick moment) numbered all = tt
+effect_is_of : (setup : Setup) (keys : Keys) (past : List Doing) (rows : List Row) (now place caller : ℕ) (d : Deed) → IsNumbered past caller place → AreNumbered past
+    → IsOf caller past (effect_of setup keys past rows now place caller d).doing
+effect_is_of setup keys past rows now place caller (deed.Call raw) numbered all =
+    call_is_of past (key_asked (asked_in (request_of setup.key raw))) (opens keys (asked_in (request_of setup.key raw))) rows now place caller
+    (called_at keys setup.key rows now place raw) numbered
+effect_is_of setup keys past rows now place caller (deed.Finish run ruling) numbered all =
+    finish_is_of past keys rows now place caller run ruling (own_run past caller run) refl all
+effect_is_of setup keys past rows now place caller deed.Resume numbered all = resume_is_of past rows now place caller (first_parked past) numbered
+effect_is_of setup keys past rows now place caller (deed.Park run why) numbered all = park_is_of past rows now place caller run why (own_run past caller run) refl all
+effect_is_of setup keys past rows now place caller (deed.Tick moment) numbered all = tt
 
 -- ---- what happened
 
@@ -87,7 +100,7 @@ doings_more past h = fold-append (λ (doings : List Doing) (x : Happening). x.do
 happened_of : (setup : Setup) (past : List Happening) (entry : Entry) → HasNumbers past
     → IsOf entry.caller (doings_after past) (happening_of setup past entry).doing
 happened_of setup past entry has =
-    effect_is_of setup (doings_after past) (rows_after setup past) (time_after setup past) (length past + 1) entry.caller entry.deed
+    effect_is_of setup (keys_after setup past) (doings_after past) (rows_after setup past) (time_after setup past) (length past + 1) entry.caller entry.deed
     (Next (next_place (doings_after past) (length past) (length past + 1) has.places refl)) has.numbered
 
 numbers_more : (setup : Setup) (past : List Happening) (entry : Entry) → HasNumbers past → HasNumbers (and_then setup past entry)
@@ -144,6 +157,7 @@ spends_stays : (setup : Setup) (history more : List Entry) (caller : ℕ) (a : A
 spends_stays setup history more caller (act.Call raw) none own = own
 spends_stays setup history more caller (act.Finish ticket ruling) none own = held_stays setup history more caller ticket none own
 spends_stays setup history more caller (act.Park ticket why) none own = held_stays setup history more caller ticket none own
+spends_stays setup history more caller act.Resume none own = own
 spends_stays setup history more caller (act.Tick moment) none own = own
 
 -- an allowed act stays allowed while others act

@@ -19,6 +19,7 @@ abbrev pub SpendsOwn : Setup → List Entry → ℕ → Act → Type 0
 SpendsOwn setup history caller (act.Call raw) = Unit {0}
 SpendsOwn setup history caller (act.Finish ticket ruling) = Holds setup history caller ticket
 SpendsOwn setup history caller (act.Park ticket why) = Holds setup history caller ticket
+SpendsOwn setup history caller act.Resume = Unit {0}
 SpendsOwn setup history caller (act.Tick moment) = Unit {0}
 
 -- the ticket of an answer is that of a live run of this caller

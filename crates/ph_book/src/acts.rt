@@ -12,6 +12,9 @@ pub enum Act {
     Finish(Ticket, Ruling),
     /// A run is given up before its acquirer has ruled: its attempt waits to be taken up again.
     Park(Ticket, Why),
+    /// It takes up the attempt that waits longest: of those that wait to be taken up again, that whose last park stands
+    /// earliest.
+    Resume,
     /// The clock shows this moment, in seconds since 1970, at most the end of the year 9999: the time becomes the
     /// greater of the two.
     Tick(u64),
@@ -26,6 +29,8 @@ pub enum Deed {
     Finish(u64, Ruling),
     /// The run with this number was given up.
     Park(u64, Why),
+    /// The attempt that waited longest was taken up again, where one waited.
+    Resume,
     /// The clock showed this moment.
     Tick(u64),
 }
@@ -42,10 +47,10 @@ pub struct Entry {
 pub enum Answer {
     /// The reply to a request.
     Reply(Reply),
-    /// The request waits until the acquirer has ruled on the ticket's order: whoever holds the ticket finishes its run
-    /// or parks it, and that act's answer is the reply.
+    /// The request, or the attempt that was taken up again, waits until the acquirer has ruled on the ticket's order:
+    /// whoever holds the ticket finishes its run or parks it, and that act's answer is the reply.
     Wait(Ticket),
-    /// A moment of the clock was entered: nothing is said to it.
+    /// A moment of the clock was entered, or no attempt waits to be taken up again: nothing is said to it.
     Done,
 }
 

@@ -1,5 +1,5 @@
 //! The book.
-ghost use Rattle.std.specs.Prelude.{◌≡◌, ◌+◌, ◌^◌, ◌<◌, ◌≤◌, ◌↔◌, ◌∷◌, ◌++◌, [], false, true, length, None, Some, IfOk, IfErr, OnOk, OnErr, IsTrue};
+ghost use Rattle.std.specs.Prelude.{◌≡◌, ◌+◌, ◌^◌, ◌<◌, ◌≤◌, ◌↔◌, ◌∷◌, ◌++◌, [], false, true, length, None, Some, IfOk, IfErr, IfNone, IfSome, OnOk, OnErr, IsTrue};
 ghost use Rattle.ph_attempts.specs.Attempts.{Begins};
 ghost use Rattle.ph_doings.specs.Kept.{step_of};
 ghost use Rattle.ph_items.specs.Clocks.{clock_limit};
@@ -7,20 +7,22 @@ ghost use Rattle.ph_lock.specs.declared.object.Refused.{Refused};
 ghost use Rattle.ph_book.specs.declared.acts.Deed.TheVariants as deed;
 ghost use Rattle.ph_book.specs.State.{BookState, entered};
 ghost use Rattle.ph_book.specs.Answers.{HasStatus, IsAnswerTo, IsNoPark, Says, is_ruled, replies_in};
-ghost use Rattle.ph_book.specs.Called.{IsCalled, Steps};
-ghost use Rattle.ph_book.specs.Entries.{IsGranted, IsWithinClock, call_entry, deed_of, entry_of, finish_entry, park_entry, tick_entry};
-ghost use Rattle.ph_book.specs.History.{effect_to, opening_row, replies_of, said_to, time_of};
+ghost use Rattle.ph_book.specs.Called.{IsCalled, IsOpening, IsResuming, asked_if};
+ghost use Rattle.ph_book.specs.Calls.{key_asked};
+ghost use Rattle.ph_book.specs.Entries.{IsGranted, IsWithinClock, TakesUp, call_entry, deed_of, entry_of, finish_entry, park_entry, resume_entry, tick_entry};
+ghost use Rattle.ph_book.specs.History.{deed_asks, effect_to, nothing, opening_row, replies_of, rows_of, said_to, time_of};
 ghost use Rattle.ph_book.specs.Queries.{Sees};
-ghost use Rattle.ph_book.specs.Replies.{Replies, Silence, park_reply};
+ghost use Rattle.ph_book.specs.Replies.{Replies, Silence, Waits, park_reply};
 ghost use Rattle.ph_book.specs.Hosts.{IsLawful};
-ghost use Rattle.ph_book.specs.Legal.{is_full, IsLegal};
+ghost use Rattle.ph_book.specs.Legal.{deed_weight, is_full, IsLegal, weight_of};
 ghost use Rattle.ph_book.specs.OwnRuns.{RunsAfter};
 ghost use Rattle.ph_book.specs.Tickets.{HandsOut, Holds, SpendsOwn};
 
 use crate::acts::{Act, Answer, Deed, Entry, Query};
-use crate::calls::{Called, called_by};
-use crate::endings::{Ending, parked_row, settled};
-use crate::room::{later, one_less, push_row, take_room};
+use crate::calls::{Called, Opening, called_by};
+use crate::endings::{Ending, Saving, parked_row, resumed_row, settled};
+use crate::keeping::{keep, open, save};
+use crate::room::{later, one_less, push_row, room_to_resume, take_room};
 use crate::setup::{Setup, few_entries};
 use crate::spares::{Spare, add_spare, take_spare};
 use crate::store::Store;
@@ -28,6 +30,7 @@ use crate::weights::{self, row_weight};
 use ph_attempts::{Attempts, Ticket};
 use ph_base::{Kind, NoMemory, Ruling, Why};
 use ph_http::{Raw, Reply};
+use ph_idem::{Asked, Records};
 use ph_items::{Account, AccountType, Item, Metadata, Order, PLATFORM};
 use ph_lock::Refused;
 use ph_money::Currency;
@@ -44,6 +47,7 @@ pub struct Book {
     store: Store,
     weight: u64,
     attempts: Attempts,
+    records: Records,
     // the number of live runs
     live: usize,
     // one for each live run
@@ -58,7 +62,7 @@ impl Model for Book {
 
     ghost view = { λ b. record { setup = b.setup; history = b.entries.items } };
 
-    ghost invariant = { λ b. IsBook b.setup b.entries.items b.store.rows b.store.time b.weight b.attempts b.live
+    ghost invariant = { λ b. IsBook b.setup b.entries.items b.store.rows b.store.time b.weight b.attempts b.records b.live
         × HasRoom b.live (length b.entries.items) (vec_capacity b.entries) b.store.room (length b.spares.items) b.weight };
 }
 
@@ -96,6 +100,7 @@ impl Book {
             store,
             weight: 256,
             attempts: Attempts::new(alloc),
+            records: Records::new(alloc),
             live: 0,
             spares: Vec::new(alloc),
         })
@@ -132,6 +137,11 @@ impl Book {
                 Err(ticket) => Err((Act::Finish(ticket, ruling), Refused::NoMemory)),
             },
             Act::Park(ticket, why) => Ok(Answer::Reply(self.park(caller, ticket, why))),
+            Act::Resume => match self.resume(caller) {
+                Ok(Some(ticket)) => Ok(Answer::Wait(ticket)),
+                Ok(None) => Ok(Answer::Done),
+                Err(refused) => Err((Act::Resume, refused)),
+            },
             Act::Tick(moment) => match self.tick(caller, moment) {
                 Ok(()) => Ok(Answer::Done),
                 Err(refused) => Err((Act::Tick(moment), refused)),
@@ -163,7 +173,14 @@ impl Book {
             return Err((raw, Refused::Full));
         }
         let place = self.entries.len() as u64 + 1;
-        match called_by(self.alloc, &self.setup.key, &self.store, place, &raw) {
+        match called_by(
+            self.alloc,
+            &self.setup.key,
+            &self.store,
+            &self.records,
+            place,
+            &raw,
+        ) {
             Ok(called) => match self.enter_called(caller, raw, called) {
                 Ok(answer) => Ok(answer),
                 Err(raw) => Err((raw, Refused::NoMemory)),
@@ -176,40 +193,64 @@ impl Book {
     fn enter_called(&mut self, caller: u64, raw: Raw, called: Called) -> Result<Answer, Raw>
         requires caller { caller < 2 ^ 62 }
         requires room { is_full self.old.setup self.old.history (deed.Call raw) ≡ false }
-        requires steps { Steps caller (length self.old.history + 1) (effect_to self.old.setup self.old.history (call_entry caller raw)) }
-        requires called { IsCalled (time_of self.old.setup self.old.history) (effect_to self.old.setup self.old.history (call_entry caller raw)) called }
+        requires called { IsCalled (rows_of self.old.setup self.old.history) (time_of self.old.setup self.old.history) (length self.old.history + 1) caller (deed_asks self.old.setup (deed.Call raw)) (asked_if (effect_to self.old.setup self.old.history (call_entry caller raw)).saves (deed_asks self.old.setup (deed.Call raw))) (effect_to self.old.setup self.old.history (call_entry caller raw)) called }
         ensures entry { OnOk result (self.new ≡ entered self.old (call_entry caller raw)) }
         ensures answer { IfOk result (λ answer. Says (length self.old.history + 1) caller (said_to self.old.setup self.old.history (call_entry caller raw)) answer) }
         ensures live { IfOk result (λ answer. HandsOut self.new.setup self.new.history caller answer) }
         ensures unchanged { IfErr result (λ back. (back ≡ raw) × (self.new ≡ self.old)) }
     {
+        self.lawful();
         match called {
-            Called::Answered(reply, rows, now) => match self.enter(caller, raw, rows, now) {
-                Ok(()) => Ok(Answer::Reply(reply)),
-                Err(raw) => Err(raw),
-            },
-            Called::Waiting(order, rows) => match self.begin(caller, raw, order, rows) {
+            Called::Answered(reply, rows, now, opening) => {
+                match self.enter(caller, raw, rows, now, opening) {
+                    Ok(()) => Ok(Answer::Reply(reply)),
+                    Err(raw) => Err(raw),
+                }
+            }
+            Called::Waiting(order, rows, asked) => {
+                match self.begin(caller, raw, order, rows, asked) {
+                    Ok(ticket) => Ok(Answer::Wait(ticket)),
+                    Err(raw) => Err(raw),
+                }
+            }
+            Called::Resuming(reference) => match self.resume_by_call(caller, raw, reference) {
                 Ok(ticket) => Ok(Answer::Wait(ticket)),
                 Err(raw) => Err(raw),
             },
         }
     }
 
-    // Enters a call that is answered at once, makes these rows and leaves this time.
-    fn enter(&mut self, caller: u64, raw: Raw, rows: Vec<Row>, now: u64) -> Result<(), Raw>
+    // Enters a call that is answered at once, makes these rows, leaves this time, and opens a record or none.
+    fn enter(
+        &mut self,
+        caller: u64,
+        raw: Raw,
+        rows: Vec<Row>,
+        now: u64,
+        opening: Option<Opening>,
+    ) -> Result<(), Raw>
         requires caller { caller < 2 ^ 62 }
         requires room { is_full self.old.setup self.old.history (deed.Call raw) ≡ false }
         requires rows { (effect_to self.old.setup self.old.history (call_entry caller raw)).rows ≡ rows.items }
         requires step { step_of (effect_to self.old.setup self.old.history (call_entry caller raw)).doing ≡ None }
         requires now { (effect_to self.old.setup self.old.history (call_entry caller raw)).now ≡ now }
+        requires opening { IsOpening (deed_asks self.old.setup (deed.Call raw)) (effect_to self.old.setup self.old.history (call_entry caller raw)) opening }
         ensures entry { OnOk result (self.new ≡ entered self.old (call_entry caller raw)) }
         ensures unchanged { IfErr result (λ back. (back ≡ raw) × (self.new ≡ self.old)) }
     {
+        let place = self.entries.len() as u64 + 1;
         let Some(weight) = weights::weight_after_call(self.weight, &raw, rows.as_slice(), self.live)
         else {
             return Err(raw);
         };
+        let Some(weight) = weights::weight_with_opening(weight, &opening, self.live) else {
+            return Err(raw);
+        };
         match take_room(&mut self.entries, &mut self.store, rows.len(), self.live) {
+            Ok(()) => {}
+            Err(NoMemory) => return Err(raw),
+        }
+        match keep(&mut self.records, opening, place, self.store.time()) {
             Ok(()) => {}
             Err(NoMemory) => return Err(raw),
         }
@@ -223,13 +264,23 @@ impl Book {
         Ok(())
     }
 
-    // Enters a call that waits for an order, and makes these rows. What the end of its run needs is made now.
-    fn begin(&mut self, caller: u64, raw: Raw, order: Order, rows: Vec<Row>) -> Result<Ticket, Raw>
+    // Enters a call that waits for an order, makes these rows, and opens a record of what it asks or none. What the end of
+    // its run needs is made now.
+    fn begin(
+        &mut self,
+        caller: u64,
+        raw: Raw,
+        order: Order,
+        rows: Vec<Row>,
+        asked: Option<Asked>,
+    ) -> Result<Ticket, Raw>
         requires caller { caller < 2 ^ 62 }
         requires room { is_full self.old.setup self.old.history (deed.Call raw) ≡ false }
+        requires said { (effect_to self.old.setup self.old.history (call_entry caller raw)).said ≡ Waits order }
         requires rows { (effect_to self.old.setup self.old.history (call_entry caller raw)).rows ≡ rows.items }
         requires step { step_of (effect_to self.old.setup self.old.history (call_entry caller raw)).doing ≡ Some (Begins (record { caller = caller; run = length self.old.history + 1; order = order })) }
         requires now { (effect_to self.old.setup self.old.history (call_entry caller raw)).now ≡ time_of self.old.setup self.old.history }
+        requires asked { asked ≡ asked_if (effect_to self.old.setup self.old.history (call_entry caller raw)).saves (deed_asks self.old.setup (deed.Call raw)) }
         ensures entry { OnOk result (self.new ≡ entered self.old (call_entry caller raw)) }
         ensures ticket { IfOk result (λ ticket. ticket ≡ record { caller = caller; run = length self.old.history + 1; order = order }) }
         ensures live { IfOk result (λ ticket. Holds self.new.setup self.new.history caller ticket) }
@@ -249,9 +300,22 @@ impl Book {
             Ok(()) => {}
             Err(NoMemory) => return Err(raw),
         }
+        match open(
+            &mut self.records,
+            asked,
+            run,
+            self.store.time(),
+            order.reference,
+        ) {
+            Ok(()) => {}
+            Err(NoMemory) => return Err(raw),
+        }
         let ticket = match self.attempts.begin(caller, run, order) {
             Ok(ticket) => ticket,
-            Err(NoMemory) => return Err(raw),
+            Err(NoMemory) => {
+                self.records.take_back(run);
+                return Err(raw);
+            }
         };
         self.entries.push_reserved(Entry {
             caller,
@@ -261,6 +325,120 @@ impl Book {
         self.weight = weight;
         self.live = live;
         Ok(ticket)
+    }
+
+    // Enters a deed by which the parked attempt of a reference is taken up again, where the book with the deed weighs
+    // this.
+    fn take_up(
+        &mut self,
+        caller: u64,
+        deed: Deed,
+        reference: u64,
+        weight: u64,
+    ) -> Result<Ticket, Deed>
+        requires caller { caller < 2 ^ 62 }
+        requires kind { TakesUp deed }
+        requires room { is_full self.old.setup self.old.history deed ≡ false }
+        requires taken { IsResuming (rows_of self.old.setup self.old.history) (time_of self.old.setup self.old.history) (length self.old.history + 1) caller (key_asked (deed_asks self.old.setup deed)) (effect_to self.old.setup self.old.history (record { caller = caller; deed = deed })) reference }
+        requires weight { weight ≡ weight_of self.old.setup self.old.history + deed_weight deed }
+        ensures entry { OnOk result (self.new ≡ entered self.old (record { caller = caller; deed = deed })) }
+        ensures answer { IfOk result (λ ticket. said_to self.old.setup self.old.history (record { caller = caller; deed = deed }) ≡ Waits ticket.order) }
+        ensures ticket { IfOk result (λ ticket. ticket ≡ record { caller = caller; run = length self.old.history + 1; order = ticket.order }) }
+        ensures live { IfOk result (λ ticket. Holds self.new.setup self.new.history caller ticket) }
+        ensures unchanged { IfErr result (λ back. (back ≡ deed) × (self.new ≡ self.old)) }
+    {
+        let live = self.live + 1;
+        let run = self.entries.len() as u64 + 1;
+        let Some(weight) = room_to_resume(
+            self.alloc,
+            &mut self.entries,
+            &mut self.store,
+            &mut self.spares,
+            weight,
+            live,
+        ) else {
+            return Err(deed);
+        };
+        let row = resumed_row(&self.store, reference);
+        let ticket = self.attempts.resume(reference, caller, run);
+        self.entries.push_reserved(Entry { caller, deed });
+        push_row(&mut self.store, row);
+        self.weight = weight;
+        self.live = live;
+        Ok(ticket)
+    }
+
+    // Enters a call under a key whose attempt is parked, which is taken up again.
+    fn resume_by_call(&mut self, caller: u64, raw: Raw, reference: u64) -> Result<Ticket, Raw>
+        requires caller { caller < 2 ^ 62 }
+        requires room { is_full self.old.setup self.old.history (deed.Call raw) ≡ false }
+        requires taken { IsResuming (rows_of self.old.setup self.old.history) (time_of self.old.setup self.old.history) (length self.old.history + 1) caller (key_asked (deed_asks self.old.setup (deed.Call raw))) (effect_to self.old.setup self.old.history (call_entry caller raw)) reference }
+        ensures entry { OnOk result (self.new ≡ entered self.old (call_entry caller raw)) }
+        ensures answer { IfOk result (λ ticket. said_to self.old.setup self.old.history (call_entry caller raw) ≡ Waits ticket.order) }
+        ensures ticket { IfOk result (λ ticket. ticket ≡ record { caller = caller; run = length self.old.history + 1; order = ticket.order }) }
+        ensures live { IfOk result (λ ticket. Holds self.new.setup self.new.history caller ticket) }
+        ensures unchanged { IfErr result (λ back. (back ≡ raw) × (self.new ≡ self.old)) }
+    {
+        let Some(weight) = weights::weight_with_raw(self.weight, &raw) else {
+            return Err(raw);
+        };
+        match self.take_up(caller, Deed::Call(raw), reference, weight) {
+            Ok(ticket) => Ok(ticket),
+            Err(deed) => {
+                let Deed::Call(raw) = deed else {
+                    unreachable!()
+                };
+                Err(raw)
+            }
+        }
+    }
+
+    // Enters that the attempt that waits longest is taken up again, where one waits.
+    fn resume(&mut self, caller: u64) -> Result<Option<Ticket>, Refused>
+        requires caller { caller < 2 ^ 62 }
+        ensures entry { OnOk result (self.new ≡ entered self.old (resume_entry caller)) }
+        ensures none { IfOk result (λ taken. IfNone taken (said_to self.old.setup self.old.history (resume_entry caller) ≡ Silence)) }
+        ensures answer { IfOk result (λ taken. IfSome taken (λ ticket. said_to self.old.setup self.old.history (resume_entry caller) ≡ Waits ticket.order)) }
+        ensures ticket { IfOk result (λ taken. IfSome taken (λ ticket. ticket ≡ record { caller = caller; run = length self.old.history + 1; order = ticket.order })) }
+        ensures live { IfOk result (λ taken. IfSome taken (λ ticket. Holds self.new.setup self.new.history caller ticket)) }
+        ensures unchanged { OnErr result (self.new ≡ self.old) }
+        ensures full { IfErr result (λ refused. (refused ≡ Refused.Full) ↔ IsTrue (is_full self.old.setup self.old.history deed.Resume)) }
+        ensures room { OnOk result (is_full self.old.setup self.old.history deed.Resume ≡ false) }
+    {
+        let places = self.entries.len() as u64 + self.live as u64;
+        if weights::has_no_two_places(&self.setup, places) {
+            return Err(Refused::Full);
+        }
+        let weight = self.weight;
+        match self.attempts.parked() {
+            Some(reference) => match self.take_up(caller, Deed::Resume, reference, weight) {
+                Ok(ticket) => Ok(Some(ticket)),
+                Err(_deed) => Err(Refused::NoMemory),
+            },
+            None => match self.pass(caller) {
+                Ok(()) => Ok(None),
+                Err(NoMemory) => Err(Refused::NoMemory),
+            },
+        }
+    }
+
+    // Enters that an attempt was to be taken up again, and that none waits.
+    fn pass(&mut self, caller: u64) -> Result<(), NoMemory>
+        requires caller { caller < 2 ^ 62 }
+        requires room { is_full self.old.setup self.old.history deed.Resume ≡ false }
+        requires none { effect_to self.old.setup self.old.history (resume_entry caller) ≡ nothing (time_of self.old.setup self.old.history) }
+        ensures entry { OnOk result (self.new ≡ entered self.old (resume_entry caller)) }
+        ensures unchanged { OnErr result (self.new ≡ self.old) }
+    {
+        match take_room(&mut self.entries, &mut self.store, 0, self.live) {
+            Ok(()) => {}
+            Err(NoMemory) => return Err(NoMemory),
+        }
+        self.entries.push_reserved(Entry {
+            caller,
+            deed: Deed::Resume,
+        });
+        Ok(())
     }
 
     // Enters a ruling. Where there is no memory, the ticket comes back.
@@ -275,9 +453,14 @@ impl Book {
         let live = one_less(self.live);
         let place = self.entries.len() as u64 + 1;
         let attempt = ticket.order().reference;
-        let Ending { reply, rows } = match settled(
+        let Ending {
+            reply,
+            rows,
+            saving,
+        } = match settled(
             self.alloc,
             &self.store,
+            &self.records,
             place,
             attempt,
             ruling,
@@ -286,6 +469,9 @@ impl Book {
             Err(NoMemory) => return Err(ticket),
         };
         let Some(weight) = weights::weight_after(self.weight, rows.as_slice(), live) else {
+            return Err(ticket);
+        };
+        let Some(weight) = weights::weight_with_saving(weight, &saving, live) else {
             return Err(ticket);
         };
         match take_room(&mut self.entries, &mut self.store, rows.len(), live) {
@@ -302,6 +488,7 @@ impl Book {
         self.weight = weight;
         self.live = live;
         let _spare = take_spare(&mut self.spares);
+        save(&mut self.records, reply.status, saving);
         Ok(reply)
     }
 

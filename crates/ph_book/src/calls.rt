@@ -1,26 +1,31 @@
 //! What a call comes to.
-ghost use Rattle.std.specs.Prelude.{◌≡◌, ℕ, [], length, IfOk, None};
-ghost use Rattle.ph_rows.specs.Batches.{BatchState, empty_batch};
+ghost use Rattle.std.specs.Prelude.{◌≡◌, ℕ, List, [], length, false, IfOk, IfSome, IsSome, None, Option, Some, is_some, option_copied};
+ghost use Rattle.ph_rows.specs.declared.rows.Row.{Row};
+ghost use Rattle.ph_rows.specs.Batches.{BatchState, empty_batch, made_rows};
 ghost use Rattle.ph_rows.specs.Names.{owned_named};
 ghost use Rattle.ph_facts.specs.Outcomes.{Gives, Outcome};
-ghost use Rattle.ph_calls.specs.Reading.{reading_of};
+ghost use Rattle.ph_idem.specs.declared.asked.Asked.{Asked};
 ghost use Rattle.ph_views.specs.Balances.{balance_doc};
 ghost use Rattle.ph_items.specs.Accounts.{platform};
 ghost use Rattle.ph_intents.specs.Begun.{GivesBegun};
 ghost use Rattle.ph_intents.specs.Capture.{capture_outcome};
-ghost use Rattle.ph_book.specs.Calls.{Makes, Rejects, Shows, and_opened, authenticated, called_at, carried, clock_set, created, is_key, is_platform, read_upshot, retrieved};
-ghost use Rattle.ph_book.specs.Called.{Comes, IsCalled, IsRejected};
-ghost use Rattle.ph_book.specs.History.{Effect, call_effect};
-ghost use Rattle.ph_book.specs.Replies.{Replies, Waits, doc_reply, error_reply, shown_reply};
-ghost use Rattle.ph_rows.specs.Batches.{made_rows};
+ghost use Rattle.ph_book.specs.declared.setup.Setup.{Setup};
+ghost use Rattle.ph_book.specs.Calls.{Keys, Makes, Shows, and_opened, authenticated, carried, clock_set, created, key_asked, keyed_upshot, opens, retrieved};
+ghost use Rattle.ph_book.specs.Called.{Comes, HaveReplies, IsCalled, ServeKeys, asked_if, opening_of};
+ghost use Rattle.ph_book.specs.History.{Effect, call_effect, request_effect};
+ghost use Rattle.ph_book.specs.Keys.{asked_in, request_of};
+ghost use Rattle.ph_book.specs.Replies.{Replies, Waits, doc_reply, error_reply, replayed_reply, shown_reply};
 
-use crate::replies::{doc_reply, error_reply, shown_reply};
+use crate::endings::is_parked;
+use crate::judged::{Judged, judge};
+use crate::replies::{doc_reply, error_reply, replayed_reply, shown_reply};
 use crate::store::Store;
-use ph_base::{Bytes, Id, Kind, NoMemory, print_id};
-use ph_calls::{Authenticate, Call, CaptureIntent, CreateIntent, read_call};
+use ph_base::{Bytes, Kind, NoMemory};
+use ph_calls::{Authenticate, Call, CaptureIntent, CreateIntent};
 use ph_disputes::{close, evidence, open_due};
 use ph_errors::{ApiError, Refusal};
 use ph_http::{Raw, Reply};
+use ph_idem::{Asked, Found, Records, Saved};
 use ph_intents::{Begin, Begun, begin, cancel, capture, create, fail_authentication, update};
 use ph_items::{Order, PLATFORM};
 use ph_json::Doc;
@@ -33,8 +38,6 @@ use std::alloc::Global;
 /// What was carried out of a call.
 #[derive(Drop)]
 pub enum Carried {
-    /// The request is no call that may be carried out.
-    Rejected(ApiError),
     /// The batch was added to, and the object of this number is shown.
     Added(u64),
     /// The batch was added to, and the call waits for an order.
@@ -45,39 +48,22 @@ pub enum Carried {
     Set(u64),
 }
 
+/// A record that a call opens, with the reply to it.
+#[derive(Drop, Debug)]
+pub struct Opening {
+    pub asked: Asked,
+    pub saved: Saved,
+}
+
 /// What a call comes to, with the rows that it makes.
 #[derive(Drop, Debug)]
 pub enum Called {
-    /// It is answered by this reply, and leaves this time.
-    Answered(Reply, Vec<Row>, u64),
-    /// It waits until the acquirer has ruled on this order.
-    Waiting(Order, Vec<Row>),
-}
-
-// Whether the credentials of a request are the key of the setup.
-fn is_key(key: &Bytes, given: &Option<Bytes>) -> bool
-    ensures { result ≡ is_key key.now given.now }
-{
-    match given {
-        Some(given) => given.as_slice() == key.as_slice(),
-        None => false,
-    }
-}
-
-// Whether the account that a request names is the platform's own.
-fn is_platform(account: &Option<Bytes>) -> bool
-    ensures { result ≡ is_platform account.now }
-{
-    match account {
-        Some(name) => {
-            let platform = print_id(Id {
-                kind: Kind::Account,
-                number: PLATFORM,
-            });
-            name.as_slice() == platform.as_slice()
-        }
-        None => true,
-    }
+    /// It is answered by this reply, leaves this time, and opens a record or none.
+    Answered(Reply, Vec<Row>, u64, Option<Opening>),
+    /// It waits until the acquirer has ruled on this order, and opens a record of what it asks, or none.
+    Waiting(Order, Vec<Row>, Option<Asked>),
+    /// It takes the attempt of this reference up again.
+    Resuming(u64),
 }
 
 // A retrieve of the object of a kind whose id stands in the path.
@@ -192,16 +178,6 @@ fn begun(given: Result<Begun, Refusal>) -> Result<Carried, Refusal>
     }
 }
 
-// A request that is rejected for this.
-fn rejected(refusal: Refusal) -> Result<Carried, Refusal>
-    ensures { IsRejected refusal result }
-{
-    match refusal {
-        Refusal::Api(error) => Ok(Carried::Rejected(error)),
-        Refusal::NoMemory => Err(Refusal::NoMemory),
-    }
-}
-
 // Carries a call out: one arm for each row of the table of calls.
 fn carry(alloc: Global, store: &Store, call: &Call, batch: &mut Batch) -> Result<Carried, Refusal>
     ensures { Comes (carried store.now.rows store.now.time call.now batch.old) result batch.new }
@@ -226,97 +202,174 @@ fn carry(alloc: Global, store: &Store, call: &Call, batch: &mut Batch) -> Result
     }
 }
 
-// Carries out the call that a request is.
-fn read_and_carry(
-    alloc: Global,
-    store: &Store,
-    raw: &Raw,
-    batch: &mut Batch,
-) -> Result<Carried, Refusal>
-    ensures { Comes (read_upshot store.now.rows store.now.time (reading_of raw.now) batch.old) result batch.new }
+// The record that a call opens to which this is replied, where it opens one.
+fn opened(alloc: Global, asked: Option<Asked>, reply: &Reply) -> Result<Option<Opening>, NoMemory>
+    ensures { IfOk result (λ opening. opening ≡ opening_of asked reply.now) }
 {
-    match read_call(alloc, raw) {
-        Ok(request) => carry(alloc, store, &request.call, batch),
-        Err(refusal) => rejected(refusal),
+    match asked {
+        Some(asked) => Ok(Some(Opening {
+            asked,
+            saved: Saved {
+                status: reply.status,
+                body: reply.body.copy(alloc)?,
+            },
+        })),
+        None => Ok(None),
     }
 }
 
-// What a request comes to, with the batch of its entry.
-#[tactic(auto, unfolding(crate::specs::Calls::called_at))]
-fn upshot(
-    alloc: Global,
-    key: &Bytes,
-    store: &Store,
-    raw: &Raw,
-    batch: &mut Batch,
-) -> Result<Carried, Refusal>
-    requires begun { batch.old ≡ empty_batch (length store.now.rows) store.now.time batch.old.entry }
-    ensures { Comes (called_at key.now store.now.rows store.now.time batch.old.entry raw.now) result batch.new }
+// The key under which a call is made.
+fn key_in(asked: &Option<Asked>) -> Option<&Bytes>
+    ensures { option_copied result ≡ key_asked asked.now }
 {
-    if !is_key(key, &raw.auth) {
-        return rejected(Refusal::of(ApiError::invalid_api_key(alloc)));
+    match asked {
+        Some(asked) => Some(&asked.key),
+        None => None,
     }
-    if !is_platform(&raw.account) {
-        return rejected(Refusal::of(ApiError::no_such_account(alloc)));
-    }
-    read_and_carry(alloc, store, raw, batch)
 }
 
 // An accepted call, which shows an object.
-fn shown(alloc: Global, store: &Store, object: u64, batch: Batch) -> Result<Called, NoMemory>
-    ensures { (effect : Effect) → effect.said ≡ Replies (shown_reply store.now.time store.now.rows object batch) → effect.rows ≡ made_rows None batch
-        → effect.now ≡ store.now.time → IfOk result (λ called. IsCalled store.now.time effect called) }
+fn shown(
+    alloc: Global,
+    store: &Store,
+    object: u64,
+    batch: Batch,
+    asked: Option<Asked>,
+) -> Result<Called, NoMemory>
+    ensures { (effect : Effect) (place caller : ℕ) → effect.said ≡ Replies (shown_reply store.now.time store.now.rows object batch) → effect.saves ≡ is_some asked
+        → effect.rows ≡ made_rows (key_asked asked) batch → effect.now ≡ store.now.time
+        → IfOk result (λ called. IsCalled store.now.rows store.now.time place caller asked asked effect called) }
 {
     let reply = shown_reply(alloc, store, object, &batch)?;
-    let rows = batch.into_rows(alloc, None)?;
-    Ok(Called::Answered(reply, rows, store.time()))
+    let rows = batch.into_rows(alloc, key_in(&asked))?;
+    let opening = opened(alloc, asked, &reply)?;
+    Ok(Called::Answered(reply, rows, store.time(), opening))
 }
 
 // An accepted call, which waits for an order.
-fn waiting(alloc: Global, order: Order, batch: Batch) -> Result<Called, NoMemory>
-    ensures { (now : ℕ) (effect : Effect) → effect.said ≡ Waits order → effect.rows ≡ made_rows None batch → effect.now ≡ now
-        → IfOk result (λ called. IsCalled now effect called) }
+fn waiting(
+    alloc: Global,
+    order: Order,
+    batch: Batch,
+    asked: Option<Asked>,
+) -> Result<Called, NoMemory>
+    ensures { (rows : List Row) (now place caller : ℕ) (effect : Effect) → effect.said ≡ Waits order → effect.saves ≡ is_some asked
+        → effect.rows ≡ made_rows (key_asked asked) batch → effect.now ≡ now
+        → IfOk result (λ called. IsCalled rows now place caller asked asked effect called) }
 {
-    let rows = batch.into_rows(alloc, None)?;
-    Ok(Called::Waiting(order, rows))
+    let rows = batch.into_rows(alloc, key_in(&asked))?;
+    Ok(Called::Waiting(order, rows, asked))
 }
 
 // A call that shows a document, and leaves this time.
-fn answered(alloc: Global, doc: &Doc, now: u64) -> Result<Called, NoMemory>
-    ensures { (time : ℕ) (effect : Effect) → effect.said ≡ Replies (doc_reply doc.now) → effect.rows ≡ [] → effect.now ≡ now
-        → IfOk result (λ called. IsCalled time effect called) }
+fn answered(alloc: Global, doc: &Doc, now: u64, asked: Option<Asked>) -> Result<Called, NoMemory>
+    ensures { (rows : List Row) (time place caller : ℕ) (of : Option Asked) (effect : Effect) → effect.said ≡ Replies (doc_reply doc.now) → effect.saves ≡ is_some asked
+        → effect.rows ≡ [] → effect.now ≡ now → IfOk result (λ called. IsCalled rows time place caller of asked effect called) }
 {
     let reply = doc_reply(alloc, doc)?;
-    Ok(Called::Answered(reply, Vec::new(alloc), now))
+    let opening = opened(alloc, asked, &reply)?;
+    Ok(Called::Answered(reply, Vec::new(alloc), now, opening))
 }
 
-// A request that is refused or rejected, which leaves this time.
-fn refused(alloc: Global, error: &ApiError, now: u64) -> Result<Called, NoMemory>
-    ensures { (time : ℕ) (effect : Effect) → effect.said ≡ Replies (error_reply error.now) → effect.rows ≡ [] → effect.now ≡ now
-        → IfOk result (λ called. IsCalled time effect called) }
+// A request that is refused, which leaves this time.
+fn refused(
+    alloc: Global,
+    error: &ApiError,
+    now: u64,
+    asked: Option<Asked>,
+) -> Result<Called, NoMemory>
+    ensures { (rows : List Row) (time place caller : ℕ) (of : Option Asked) (effect : Effect) → effect.said ≡ Replies (error_reply error.now) → effect.saves ≡ is_some asked
+        → effect.rows ≡ [] → effect.now ≡ now → IfOk result (λ called. IsCalled rows time place caller of asked effect called) }
 {
     let reply = error_reply(alloc, error, None)?;
-    Ok(Called::Answered(reply, Vec::new(alloc), now))
+    let opening = opened(alloc, asked, &reply)?;
+    Ok(Called::Answered(reply, Vec::new(alloc), now, opening))
 }
 
-/// What a request comes to over the rows of a store, as the entry of a place, where this is the key of the setup.
+// What a call comes to by itself as the entry of a place: it opens a record of what it asks, where it is handed that.
+fn made(
+    alloc: Global,
+    store: &Store,
+    place: u64,
+    call: &Call,
+    asked: Option<Asked>,
+) -> Result<Called, NoMemory>
+    ensures { (caller : ℕ) → IfOk result (λ called. IsCalled store.now.rows store.now.time place caller asked asked
+        (call_effect (key_asked asked) (is_some asked) store.now.rows store.now.time place caller (carried store.now.rows store.now.time call.now (empty_batch (length store.now.rows) store.now.time place))) called) }
+{
+    let mut batch = Batch::new(alloc, store.rows().len() as u64, store.time(), place);
+    match carry(alloc, store, call, &mut batch) {
+        Ok(Carried::Added(object)) => shown(alloc, store, object, batch, asked),
+        Ok(Carried::Begun(begun)) => waiting(alloc, begun.order, batch, asked),
+        Ok(Carried::Shown(doc)) => answered(alloc, &doc, store.time(), asked),
+        Ok(Carried::Set(moment)) => answered(alloc, &clock_doc(alloc, moment)?, moment, asked),
+        Err(Refusal::Api(error)) => refused(alloc, &error, store.time(), asked),
+        Err(Refusal::NoMemory) => Err(NoMemory),
+    }
+}
+
+// A reply that was saved, given once more.
+fn replayed(alloc: Global, store: &Store, saved: Option<&Saved>) -> Result<Called, NoMemory>
+    requires there { IsSome (option_copied saved) }
+    ensures { (rows : List Row) (time place caller : ℕ) (of : Option Asked) (effect : Effect) → IfSome (option_copied saved.entry) (λ reply. effect.said ≡ Replies (replayed_reply reply))
+        → effect.saves ≡ false → effect.rows ≡ [] → effect.now ≡ store.now.time → IfOk result (λ called. IsCalled rows time place caller of None effect called) }
+{
+    match saved {
+        Some(saved) => {
+            let reply = replayed_reply(alloc, saved)?;
+            Ok(Called::Answered(reply, Vec::new(alloc), store.time(), None))
+        }
+        None => unreachable!(),
+    }
+}
+
+// What a call comes to that asks this under a key, as the entry of a place.
+fn keyed(
+    alloc: Global,
+    store: &Store,
+    records: &Records,
+    place: u64,
+    call: &Call,
+    asked: Asked,
+) -> Result<Called, NoMemory>
+    requires replies { HaveReplies store.now.time records.now }
+    ensures { (keys : Keys) (caller : ℕ) → ServeKeys keys store.now.rows store.now.time records.now → IfOk result (λ called. IsCalled store.now.rows store.now.time place caller (Some asked) (asked_if (opens keys (Some asked)) (Some asked))
+        (call_effect (Some asked.key) (opens keys (Some asked)) store.now.rows store.now.time place caller (keyed_upshot keys store.now.rows (empty_batch (length store.now.rows) store.now.time place) (carried store.now.rows store.now.time call.now (empty_batch (length store.now.rows) store.now.time place)) (Some asked))) called) }
+{
+    let now = store.time();
+    match records.find(asked.account, asked.key.as_slice(), &asked.shape, now) {
+        Found::Fresh => made(alloc, store, place, call, Some(asked)),
+        Found::Differs => refused(alloc, &ApiError::key_differs(alloc)?, now, None),
+        Found::Begun(reference) => {
+            if is_parked(store, reference) {
+                Ok(Called::Resuming(reference))
+            } else {
+                refused(alloc, &ApiError::key_in_use(alloc)?, now, None)
+            }
+        }
+        Found::Saved(entry) => replayed(alloc, store, records.saved(entry)),
+    }
+}
+
+/// What a request comes to over the rows of a store and the records of keys, as the entry of a place, where this is the
+/// key of the setup.
 pub fn called_by(
     alloc: Global,
     key: &Bytes,
     store: &Store,
+    records: &Records,
     place: u64,
     raw: &Raw,
 ) -> Result<Called, NoMemory>
-    ensures { (caller : ℕ) → IfOk result (λ called. IsCalled store.now.time (call_effect None store.now.rows store.now.time place caller (called_at key.now store.now.rows store.now.time place raw.now)) called) }
+    requires replies { HaveReplies store.now.time records.now }
+    ensures { (setup : Setup) (keys : Keys) (caller : ℕ) → setup.key ≡ key.now → ServeKeys keys store.now.rows store.now.time records.now → IfOk result (λ called. IsCalled store.now.rows store.now.time place caller (asked_in (request_of key.now raw.now)) (asked_if (opens keys (asked_in (request_of key.now raw.now))) (asked_in (request_of key.now raw.now)))
+        (request_effect setup keys store.now.rows store.now.time place caller raw.now (asked_in (request_of key.now raw.now))) called) }
 {
-    let mut batch = Batch::new(alloc, store.rows().len() as u64, store.time(), place);
-    match upshot(alloc, key, store, raw, &mut batch) {
-        Ok(Carried::Added(object)) => shown(alloc, store, object, batch),
-        Ok(Carried::Begun(begun)) => waiting(alloc, begun.order, batch),
-        Ok(Carried::Shown(doc)) => answered(alloc, &doc, store.time()),
-        Ok(Carried::Set(moment)) => answered(alloc, &clock_doc(alloc, moment)?, moment),
-        Ok(Carried::Rejected(error)) => refused(alloc, &error, store.time()),
-        Err(Refusal::Api(error)) => refused(alloc, &error, store.time()),
-        Err(Refusal::NoMemory) => Err(NoMemory),
+    match judge(alloc, key, raw)? {
+        Judged::Refused(error) => refused(alloc, &error, store.time(), None),
+        Judged::Accepted(call, asked) => match asked {
+            None => made(alloc, store, place, &call, None),
+            Some(asked) => keyed(alloc, store, records, place, &call, asked),
+        },
     }
 }

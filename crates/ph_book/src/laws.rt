@@ -88,8 +88,8 @@ pub fn live_runs_are_shown(setup: &Setup, _history: &[Entry])
     few_entries(setup.entries);
 }
 
-/// A call that is answered leaves the live runs as they are, the run of a call that waits stands behind them, and a
-/// ruling on a run or a park of it takes it out.
+/// A call that is answered leaves the live runs as they are, the run of a call that waits stands behind them, as does that
+/// by which an attempt is taken up again, and a ruling on a run or a park of it takes it out.
 pub fn runs_follow(setup: &Setup, _history: &[Entry])
     requires { IsLegal setup.now _history.now }
     ensures { RunsFollow setup.now _history.now }

@@ -6,6 +6,9 @@ mod book;
 mod calls;
 mod endings;
 mod hosted;
+mod judged;
+mod keeping;
+mod key_laws;
 mod laws;
 mod object;
 mod replies;
@@ -18,6 +21,7 @@ mod weights;
 pub use acts::{Act, Answer, Deed, Entry, Query};
 pub use book::Book;
 pub use hosted::{Hosted, Kept};
+pub use key_laws::{key_adds_none, repeat_finds, saved_stays};
 pub use laws::{
     all_but_the_last_were_challenged, amounts_are_sums, balances_are_sums, disputes_move_once,
     history_is_legal, ids_differ, live_runs_are_shown, processing_has_one_attempt,

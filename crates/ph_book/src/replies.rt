@@ -1,12 +1,13 @@
 //! Replies.
 ghost use Rattle.std.specs.Prelude.{◌≡◌, None, IfOk};
 ghost use Rattle.std.specs.Option.{option_copied};
-ghost use Rattle.ph_book.specs.Replies.{declined_reply, doc_reply, error_reply_with, nothing_reply, settled_reply, shown_reply, text_reply, version_reply};
+ghost use Rattle.ph_book.specs.Replies.{declined_reply, doc_reply, error_reply_with, nothing_reply, replayed_reply, settled_reply, shown_reply, text_reply, version_reply};
 
 use crate::store::Store;
 use ph_base::{Bytes, Decline, NoMemory, Ruling};
 use ph_errors::{ApiError, body};
 use ph_http::Reply;
+use ph_idem::Saved;
 use ph_json::{Doc, text};
 use ph_rows::{Batch, Row, version_with};
 use ph_views::{item_doc, item_text};
@@ -21,6 +22,18 @@ pub fn error_reply(alloc: Global, error: &ApiError, intent: Option<Doc>) -> Resu
         body: body(alloc, error, intent)?,
         replayed: false,
         retry: error.retry,
+    })
+}
+
+/// A reply that was saved, given once more.
+pub fn replayed_reply(alloc: Global, saved: &Saved) -> Result<Reply, NoMemory>
+    ensures { IfOk result (λ reply. reply ≡ replayed_reply saved.now) }
+{
+    Ok(Reply {
+        status: saved.status,
+        body: saved.body.copy(alloc)?,
+        replayed: true,
+        retry: false,
     })
 }
 

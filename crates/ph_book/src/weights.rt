@@ -3,8 +3,11 @@ ghost use Rattle.std.specs.Prelude.{◌≡◌, ◌+◌, ◌<◌, ◌^◌, ◌*�
 ghost use Rattle.ph_rows.specs.Weights.{rows_weight};
 ghost use Rattle.ph_items.specs.Weights.{FitsOrNone};
 ghost use Rattle.ph_book.specs.Legal.{is_full_at, length_if, raw_weight};
+ghost use Rattle.ph_book.specs.Called.{opening_weight, saving_weight};
 ghost use Rattle.ph_book.specs.declared.acts.Deed.TheVariants as deed;
 
+use crate::calls::Opening;
+use crate::endings::Saving;
 use crate::setup::Setup;
 use ph_base::Bytes;
 use ph_http::Raw;
@@ -27,8 +30,8 @@ fn plus_text_if(sum: u64, text: &Option<Bytes>) -> Option<u64>
     }
 }
 
-// A weight and that of a request. None exactly where 64 bits don't hold it.
-fn weight_with_raw(weight: u64, raw: &Raw) -> Option<u64>
+/// A weight and that of a request. None exactly where 64 bits don't hold it.
+pub fn weight_with_raw(weight: u64, raw: &Raw) -> Option<u64>
     ensures { FitsOrNone result (weight + raw_weight raw.now) }
 {
     let sum = plus_text(weight, &raw.method)?;
@@ -69,6 +72,52 @@ pub fn weight_after_call(weight: u64, raw: &Raw, rows: &[Row], live: usize) -> O
     weight_after(weight_with_raw(weight, raw)?, rows, live)
 }
 
+/// A weight and that of a body that is saved, where 64 bits hold it with 256 more for each live run.
+pub fn weight_with_body(weight: u64, body: &Bytes, live: usize) -> Option<u64>
+    ensures { IfSome result (λ sum. (sum ≡ weight + length body.now) × (sum + 256 * live < 2 ^ 64)) }
+{
+    let sum = plus_text(weight, body)?;
+    if leaves_room(sum, live) {
+        Some(sum)
+    } else {
+        None
+    }
+}
+
+/// The same, where a record is opened with a reply or none is.
+pub fn weight_with_opening(weight: u64, opening: &Option<Opening>, live: usize) -> Option<u64>
+    requires { weight + 256 * live < 2 ^ 64 }
+    ensures { IfSome result (λ sum. (sum ≡ weight + opening_weight opening.now) × (sum + 256 * live < 2 ^ 64)) }
+{
+    match opening {
+        Some(opening) => weight_with_body(weight, &opening.saved.body, live),
+        None => Some(weight),
+    }
+}
+
+/// The same, where a body is saved or none.
+pub fn weight_with_saving(weight: u64, saving: &Option<Saving>, live: usize) -> Option<u64>
+    requires { weight + 256 * live < 2 ^ 64 }
+    ensures { IfSome result (λ sum. (sum ≡ weight + saving_weight saving.now) × (sum + 256 * live < 2 ^ 64)) }
+{
+    match saving {
+        Some(saving) => weight_with_body(weight, &saving.body, live),
+        None => Some(weight),
+    }
+}
+
+/// A weight and that of a row without texts, where 64 bits hold it with 256 more for each live run.
+pub fn weight_after_row(weight: u64, live: usize) -> Option<u64>
+    ensures { IfSome result (λ sum. (sum ≡ weight + 256) × (sum + 256 * live < 2 ^ 64)) }
+{
+    let sum = weight.checked_add(256)?;
+    if leaves_room(sum, live) {
+        Some(sum)
+    } else {
+        None
+    }
+}
+
 /// What the row of a park weighs, which has no texts; 0 where there is none.
 pub fn row_weight(row: &Option<Row>) -> u64
     ensures { result ≡ 256 * length (option_to_list row.now) }
@@ -93,6 +142,15 @@ pub fn has_no_place(setup: &Setup, used: u64) -> bool
     ensures { result ≡ nat_lt setup.now.entries (used + 1) }
 {
     (setup.entries as u64) < used + 1
+}
+
+/// Whether no two places are left for entries more, where so many are taken: one for an entry, and one for the end of
+/// the run that it may begin.
+pub fn has_no_two_places(setup: &Setup, used: u64) -> bool
+    requires { used < 2 ^ 63 }
+    ensures { result ≡ nat_lt setup.now.entries (used + 2) }
+{
+    used + 2 > setup.entries as u64
 }
 
 // Whether a weight and that of a request are above a limit.

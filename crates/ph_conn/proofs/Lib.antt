@@ -3,7 +3,7 @@ mod DeskLemmas
 mod FrontLemmas
 mod ItemFacts
 mod KeptLemmas
-mod LawLemmas
+pub mod LawLemmas
 mod LiveLemmas
 mod PartLemmas
 mod PlaceLemmas

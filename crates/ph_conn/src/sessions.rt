@@ -20,7 +20,7 @@ use crate::rules::TalkRules;
 use crate::steps::{closed, step};
 use crate::texts::part;
 use ph_bank::{Acquirer, Patience};
-use ph_book::{Book, Hosted};
+use ph_book::{Book, Hosted, history_is_legal};
 use ph_errors::Fixed;
 use ph_http::Talk;
 use ph_io::{Duplex, Sink, Source};
@@ -53,7 +53,7 @@ pub fn serve_solo<S: Source, K: Sink, A: Acquirer, P: Patience>(
         (record { known = known_alone book.new; link = A.link link.new; counts = P.counts patience.new })
         (S.source input.old) (S.source input.new) (K.sink output.old) (K.sink output.new) }
 {
-    let _ = book.history();
+    history_is_legal(book);
     let mut talk = Talk::new(alloc);
     for i in 0..rules.limit {
         let fetched = fetch(&mut talk, input);

@@ -15,7 +15,7 @@ use Rattle.ph_doings.specs.Standings.{Live, Parked, Settled, State, Standing, No
 use Rattle.ph_doings.proofs.LawProofs.{live_is_run}
 
 -- an attempt stands under an order of its own reference
-own_order : (past : List Doing) (reference intent : ℕ) (order : Order) (state : State) → standing_of past reference ≡ Stands intent order state
+pub own_order : (past : List Doing) (reference intent : ℕ) (order : Order) (state : State) → standing_of past reference ≡ Stands intent order state
     → order.reference ≡ reference
 own_order [] reference i o s is = absurd (cc)
 own_order (Leaves ∷ past) reference i o s is = own_order past reference i o s is

@@ -38,7 +38,7 @@ said_stays past (turn ∷ later) place le =
     rw apart (said_stays past later place le)
 
 -- nothing was said to an entry that isn't there
-said_within : {A : Type 0} (past : List (Turn A)) (place : ℕ) → length past < place → said_at past place ≡ Silence
+pub said_within : {A : Type 0} (past : List (Turn A)) (place : ℕ) → length past < place → said_at past place ≡ Silence
 said_within [] place lt = refl
 said_within (turn ∷ past) place lt =
     let apart : (place == suc (length past)) ≡ false = grind (arith, nat_tests) in
@@ -180,7 +180,7 @@ not_fresh_attempt past reference (Stands intent order attempt.Live) is = cc
 not_fresh_attempt past reference (Stands intent order attempt.Parked) is = cc
 not_fresh_attempt past reference (Stands intent order (attempt.Settled ruling)) is = cc
 
-not_fresh : (past : List Doing) (place : ℕ) (said : Said) → result_said past place said ≡ Fresh → ⊥
+pub not_fresh : (past : List Doing) (place : ℕ) (said : Said) → result_said past place said ≡ Fresh → ⊥
 not_fresh past place Replies is = cc
 not_fresh past place Silence is = cc
 not_fresh past place (Waits reference) is = not_fresh_attempt past reference (standing_of past reference) is

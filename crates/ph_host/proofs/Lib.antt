@@ -1,1 +1,6 @@
+pub mod HostLemmas
+pub mod PairLemmas
+pub mod PlanLemmas
+pub mod SendLemmas
 mod SetupLemmas
+pub mod VisitLemmas

@@ -1,52 +1,21 @@
-//! What the words of the command line ask for, and the top call that does it.
-ghost use Rattle.std.specs.Prelude.{◌≡◌, ℕ};
+//! The top call of a session over one source and one sink.
+ghost use Rattle.std.specs.Prelude.{◌≡◌, ℕ, false};
 ghost use Rattle.ph_base.specs.Counts.{Rose};
-ghost use Rattle.ph_host.specs.Plans.{WritesUsage, patience_of, plan_of};
+ghost use Rattle.ph_host.specs.Plans.{WritesUsage, is_once, plan_of};
 ghost use Rattle.ph_host.specs.Runs.{EndsFull, Runs, status_of};
 
-use crate::options::{are_options, given, patience_in};
+use crate::planning::plan;
 use crate::plans::Plan;
-use crate::setups::{book, options};
+use crate::setups::book;
+use crate::usage::usage;
 use ph_bank::{Acquirer, Patience};
 use ph_base::{Bytes, NoMemory};
 use ph_conn::{Closed, Stop, TalkError, TalkRules, serve_none, serve_solo};
-use ph_io::{Sink, Source, write_all};
+use ph_io::{Sink, Source};
 use std::alloc::Global;
 
 // How many requests the session of `stdio` serves.
 const LIMIT: u32 = 100_000;
-
-// How many further polls are granted where the words name none.
-const POLLS: u32 = 1_000;
-
-/// The plan that the words name, without the program's own name. It takes no memory.
-///
-/// `stdio [--key K] [--clock T] [--patience N]` asks for a session over standard input and output. The options stand in any order,
-/// each at most once, and each takes the next word as its value. `K` is the API key, 9 to 255 bytes from `!` to `~`
-/// that begin with `sk_test_`, and `sk_test_payhost` where it isn't given. `T` is the opening moment in seconds since
-/// 1970, at most 253402300799, and 1700000000 where it isn't given. `N` says how many further polls are granted each
-/// time that the acquirer is asked to rule, at most 1000000, and 1000 where it isn't given. Any other words are `Usage`.
-pub fn plan(words: &[Bytes]) -> Plan
-    ensures { result ≡ plan_of words.now }
-{
-    match words {
-        [word, options @ ..] if word.as_slice() == b"stdio".as_slice() && are_options(options) =>
-            Plan::Once {
-                patience: patience(words),
-            },
-        _ => Plan::Usage,
-    }
-}
-
-// How many further polls are granted.
-fn patience(words: &[Bytes]) -> u32
-    ensures { result ≡ patience_of words.now }
-{
-    match given(b"--patience", options(words)) {
-        Some(value) => patience_in(value).unwrap_or(POLLS),
-        None => POLLS,
-    }
-}
 
 /// Runs what the words ask for over this input and output, and answers the exit status.
 ///
@@ -58,7 +27,7 @@ fn patience(words: &[Bytes]) -> u32
 /// |---|---|
 /// | 0 | the input was read to its end, or a request asked for the end |
 /// | 1 | a request was refused with a closing reply, or 100,000 requests were answered |
-/// | 2 | the words ask for nothing that payhost does: the output is the usage line |
+/// | 2 | the words ask for no session over standard input and output: the output is the usage line |
 /// | 3 | a read failed |
 /// | 4 | a write failed |
 /// | 5 | the input ended within a request |
@@ -76,7 +45,8 @@ pub fn run_once<S: Source, K: Sink, A: Acquirer, P: Patience>(
     ensures stdio { (polls : ℕ) → plan_of words.now ≡ Plan.Once polls →
         Runs words.now result (A.link link.old) (A.link link.new) (P.counts patience.old) (P.counts patience.new) (S.source input.old) (S.source input.new) (K.sink output.old) (K.sink output.new) }
 
-    ensures usage { plan_of words.now ≡ Plan.Usage → (result ≡ 2)
+    // Any other words get the usage line.
+    ensures usage { is_once (plan_of words.now) ≡ false → (result ≡ 2)
         × (A.link link.new ≡ A.link link.old) × (P.counts patience.new ≡ P.counts patience.old)
         × (S.source input.new ≡ S.source input.old) × WritesUsage (K.sink output.old) (K.sink output.new) }
 
@@ -89,7 +59,7 @@ pub fn run_once<S: Source, K: Sink, A: Acquirer, P: Patience>(
         EndsFull words.now (A.link link.old) (A.link link.new) (P.counts patience.old) (P.counts patience.new) (S.source input.old) (S.source input.new) (K.sink output.old) (K.sink output.new) }
 {
     match plan(words) {
-        Plan::Usage => usage(output),
+        Plan::Host { .. } | Plan::Usage => usage(output),
         Plan::Once { .. } => stdio(alloc, words, input, output, link, patience),
     }
 }
@@ -111,20 +81,6 @@ fn stdio<S: Source, K: Sink, A: Acquirer, P: Patience>(
             status(serve_solo(alloc, &mut book, input, output, link, patience, &rules))
         }
         Err(NoMemory) => status(Err(serve_none(output))),
-    }
-}
-
-// Writes the usage line.
-fn usage<K: Sink>(output: &mut K) -> u8
-    ensures status { result ≡ 2 }
-    ensures line { WritesUsage (K.sink output.old) (K.sink output.new) }
-{
-    match write_all(
-        output,
-        b"usage: payhost stdio|serve|drill|replay|sign|verify\n",
-    ) {
-        Ok(()) => 2,
-        Err(_) => 2,
     }
 }
 

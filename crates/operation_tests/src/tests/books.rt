@@ -77,7 +77,9 @@ fn begins_with_create(rt: &impl Abort, book: &Book) {
             assert_eq!(rt; entry.caller, 0);
             match &entry.deed {
                 Deed::Call(raw) => assert_eq!(rt; raw.body.as_slice(), BODY),
-                Deed::Finish(_, _) | Deed::Park(_, _) | Deed::Tick(_) => assert!(rt; false),
+                Deed::Finish(_, _) | Deed::Park(_, _) | Deed::Resume | Deed::Tick(_) => assert!(rt;
+                    false
+                ),
             }
         }
         None => assert!(rt; false),

@@ -1,86 +1,34 @@
-use Rattle.std.proofs.Common.{◌≡◌, sym, ap, ◌∙◌, subst, Some, None}
-use Rattle.ph_rows.specs.Batches.{BatchState}
-use Rattle.ph_json.specs.declared.doc.Doc.{Doc}
-use Rattle.ph_facts.specs.Outcomes.{Refuses, Added}
-use Rattle.ph_book.specs.Calls.{Upshot, Rejects, Makes, Shows, Sets, called_at}
-use Rattle.ph_book.specs.Called.{IsMade}
-use Rattle.ph_book.specs.History.{call_effect}
-use Rattle.ph_book.specs.Replies.{Replies, doc_reply, error_reply}
-use Rattle.ph_book.proofs.CalledLemmas.{added_effect}
+use Rattle.std.proofs.Common.{◌≡◌, ℕ, List, Option, Some, None, false, refl, sym, ap, ◌∙◌}
+use Rattle.ph_idem.specs.declared.asked.Asked.{Asked}
+use Rattle.ph_book.specs.declared.judged.Judged.{Judged}
+use Rattle.ph_book.specs.declared.judged.Judged.TheVariants.{Refused, Accepted}
+use Rattle.ph_book.specs.Keys.{request_of}
+use Rattle.ph_book.specs.History.{replied_effect}
+use Rattle.ph_book.specs.Replies.{error_reply}
+use Rattle.ph_book.proofs.KeyedLemmas.{judged_called}
 use Rattle.ph_book.proofs.calls.called_by.Goals as goal
 
-pub returns-in-Ok-Added : goal.returns-in-Ok-Added
-returns-in-Ok-Added c caller =
-    let store = c.args.store.now in
-    let moved = ap (λ entry. called_at c.args.key.now store.rows store.time entry c.args.raw.now) (ap (λ (batch : BatchState). batch.entry) c.new-batch.ensures) in
-    let made : IsMade (called_at c.args.key.now store.rows store.time c.new-batch.result.entry c.args.raw.now) (Added c.in-Ok-Added.object None c.upshot.new.batch) =
-    rw c.in-Ok-Added.field-0-is at c.in-Ok-Added.ensures in
-    let added = added_effect store.rows store.time c.args.place caller c.in-Ok-Added.object None c.upshot.new.batch
-    (called_at c.args.key.now store.rows store.time c.args.place c.args.raw.now)
-    (subst (λ (u : Upshot). IsMade u (Added c.in-Ok-Added.object None c.upshot.new.batch)) moved made) in
-    c.shown.ensures (call_effect None store.rows store.time c.args.place caller (called_at c.args.key.now store.rows store.time c.args.place c.args.raw.now))
-    added.said added.rows_are added.now_is
+pub keyed-requires : goal.keyed-requires
+keyed-requires c = record { replies = c.requires.replies }
 
-pub returns-in-Ok-Begun : goal.returns-in-Ok-Begun
-returns-in-Ok-Begun c caller =
+pub returns-in-Refused : goal.returns-in-Refused
+returns-in-Refused c setup keys caller same serve =
     let store = c.args.store.now in
-    let begun = c.in-Ok-Begun.begun in
-    let moved = ap (λ entry. called_at c.args.key.now store.rows store.time entry c.args.raw.now) (ap (λ (batch : BatchState). batch.entry) c.new-batch.ensures) in
-    let made : IsMade (called_at c.args.key.now store.rows store.time c.new-batch.result.entry c.args.raw.now) (Added begun.object (Some begun.order) c.upshot.new.batch) =
-    rw c.in-Ok-Begun.field-0-is at c.in-Ok-Begun.ensures in
-    let added = added_effect store.rows store.time c.args.place caller begun.object (Some begun.order) c.upshot.new.batch
-    (called_at c.args.key.now store.rows store.time c.args.place c.args.raw.now)
-    (subst (λ (u : Upshot). IsMade u (Added begun.object (Some begun.order) c.upshot.new.batch)) moved made) in
-    c.waiting.ensures store.time (call_effect None store.rows store.time c.args.place caller (called_at c.args.key.now store.rows store.time c.args.place c.args.raw.now))
-    added.said added.rows_are added.now_is
+    judged_called setup keys c.args.key.now store.rows store.time c.args.place caller c.args.raw.now (Refused c.in-Refused.error) c.refused.result same
+    (sym c.in-Refused.is ∙ c.in_ok-error.ensures)
+    (c.refused.ensures store.rows store.time c.args.place caller None (replied_effect false (error_reply c.in-Refused.error) store.time) refl refl refl (sym c.time.ensures))
 
-pub returns-in-Ok-Shown : goal.returns-in-Ok-Shown
-returns-in-Ok-Shown c caller =
+pub returns-in-None : goal.returns-in-None
+returns-in-None c setup keys caller same serve =
     let store = c.args.store.now in
-    let moved = ap (λ entry. called_at c.args.key.now store.rows store.time entry c.args.raw.now) (ap (λ (batch : BatchState). batch.entry) c.new-batch.ensures) in
-    let comes : called_at c.args.key.now store.rows store.time c.new-batch.result.entry c.args.raw.now ≡ Shows c.in-Ok-Shown.doc =
-    rw c.in-Ok-Shown.field-0-is at c.in-Ok-Shown.ensures in
-    let is : called_at c.args.key.now store.rows store.time c.args.place c.args.raw.now ≡ Shows c.in-Ok-Shown.doc = sym moved ∙ comes in
-    c.answered.ensures store.time (call_effect None store.rows store.time c.args.place caller (called_at c.args.key.now store.rows store.time c.args.place c.args.raw.now))
-    (ap (λ (u : Upshot). (call_effect None store.rows store.time c.args.place caller u).said) is)
-    (ap (λ (u : Upshot). (call_effect None store.rows store.time c.args.place caller u).rows) is)
-    (ap (λ (u : Upshot). (call_effect None store.rows store.time c.args.place caller u).now) is ∙ sym c.time-in-Ok-Shown.ensures)
+    let judged : Accepted c.in-Accepted.call None ≡ request_of c.args.key.now c.args.raw.now =
+    ap (λ (asked : Option Asked). Accepted c.in-Accepted.call asked) (sym c.in-None.is) ∙ sym c.in-Accepted.is ∙ c.in_ok-error.ensures in
+    judged_called setup keys c.args.key.now store.rows store.time c.args.place caller c.args.raw.now (Accepted c.in-Accepted.call None) c.made.result same judged (c.made.ensures caller)
 
-pub returns-in-Ok-Set : goal.returns-in-Ok-Set
-returns-in-Ok-Set c caller =
+pub returns : goal.returns
+returns c setup keys caller same serve =
     let store = c.args.store.now in
-    let moved = ap (λ entry. called_at c.args.key.now store.rows store.time entry c.args.raw.now) (ap (λ (batch : BatchState). batch.entry) c.new-batch.ensures) in
-    let comes : called_at c.args.key.now store.rows store.time c.new-batch.result.entry c.args.raw.now ≡ Sets c.in-Ok-Set.moment =
-    rw c.in-Ok-Set.field-0-is at c.in-Ok-Set.ensures in
-    let is : called_at c.args.key.now store.rows store.time c.args.place c.args.raw.now ≡ Sets c.in-Ok-Set.moment = sym moved ∙ comes in
-    c.answered-in-Ok-Set.ensures store.time (call_effect None store.rows store.time c.args.place caller (called_at c.args.key.now store.rows store.time c.args.place c.args.raw.now))
-    (ap (λ (u : Upshot). (call_effect None store.rows store.time c.args.place caller u).said) is
-    ∙ ap (λ (doc : Doc). Replies (doc_reply doc)) (sym c.in_ok-clock_doc-in-Ok-Set.ensures))
-    (ap (λ (u : Upshot). (call_effect None store.rows store.time c.args.place caller u).rows) is)
-    (ap (λ (u : Upshot). (call_effect None store.rows store.time c.args.place caller u).now) is)
-
-pub returns-in-Ok-Rejected : goal.returns-in-Ok-Rejected
-returns-in-Ok-Rejected c caller =
-    let store = c.args.store.now in
-    let moved = ap (λ entry. called_at c.args.key.now store.rows store.time entry c.args.raw.now) (ap (λ (batch : BatchState). batch.entry) c.new-batch.ensures) in
-    let comes : called_at c.args.key.now store.rows store.time c.new-batch.result.entry c.args.raw.now ≡ Rejects c.in-Ok-Rejected.error =
-    rw c.in-Ok-Rejected.field-0-is at c.in-Ok-Rejected.ensures in
-    let is : called_at c.args.key.now store.rows store.time c.args.place c.args.raw.now ≡ Rejects c.in-Ok-Rejected.error = sym moved ∙ comes in
-    c.refused.ensures store.time (call_effect None store.rows store.time c.args.place caller (called_at c.args.key.now store.rows store.time c.args.place c.args.raw.now))
-    (ap (λ (u : Upshot). (call_effect None store.rows store.time c.args.place caller u).said) is)
-    (ap (λ (u : Upshot). (call_effect None store.rows store.time c.args.place caller u).rows) is)
-    (ap (λ (u : Upshot). (call_effect None store.rows store.time c.args.place caller u).now) is ∙ sym c.time-in-Ok-Rejected.ensures)
-
-pub returns-in-Err-Api : goal.returns-in-Err-Api
-returns-in-Err-Api c caller =
-    let store = c.args.store.now in
-    let moved = ap (λ entry. called_at c.args.key.now store.rows store.time entry c.args.raw.now) (ap (λ (batch : BatchState). batch.entry) c.new-batch.ensures) in
-    let comes : called_at c.args.key.now store.rows store.time c.new-batch.result.entry c.args.raw.now ≡ Makes (Refuses c.in-Err-Api.error) =
-    rw c.in-Err-Api.field-0-is at c.in-Err-Api.ensures in
-    let is : called_at c.args.key.now store.rows store.time c.args.place c.args.raw.now ≡ Makes (Refuses c.in-Err-Api.error) = sym moved ∙ comes in
-    let said = ap (λ (u : Upshot). (call_effect None store.rows store.time c.args.place caller u).said) is in
-    let same = c.in-Err-Api.error-is in
-    c.refused-in-Err-Api.ensures store.time (call_effect None store.rows store.time c.args.place caller (called_at c.args.key.now store.rows store.time c.args.place c.args.raw.now))
-    (said ∙ ap (λ e. Replies (error_reply e)) (sym same))
-    (ap (λ (u : Upshot). (call_effect None store.rows store.time c.args.place caller u).rows) is)
-    (ap (λ (u : Upshot). (call_effect None store.rows store.time c.args.place caller u).now) is ∙ sym c.time-in-Err-Api.ensures)
+    let judged : Accepted c.in-Accepted.call (Some c.in-Some.asked) ≡ request_of c.args.key.now c.args.raw.now =
+    ap (λ (asked : Option Asked). Accepted c.in-Accepted.call asked) (sym c.in-Some.is) ∙ sym c.in-Accepted.is ∙ c.in_ok-error.ensures in
+    judged_called setup keys c.args.key.now store.rows store.time c.args.place caller c.args.raw.now (Accepted c.in-Accepted.call (Some c.in-Some.asked)) c.keyed.result same judged
+    (c.keyed.ensures keys caller serve)

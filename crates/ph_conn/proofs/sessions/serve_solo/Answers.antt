@@ -6,7 +6,7 @@ use Rattle.ph_conn.proofs.SessionLemmas.{begins, closes_known, follows, stops_li
 use Rattle.ph_conn.proofs.sessions.serve_solo.Goals as goal
 
 pub loop-i-init : goal.loop-i-init
-loop-i-init g c = rw c.new-talk.ensures (begins c.args.rules.now.limit (record { known = known_alone c.args.book.now; link = g.A.Acquirer.link c.args.link.now; counts = g.P.Patience.counts c.args.patience.now }) (g.S.Source.source c.args.input.now) (g.K.Sink.sink c.args.output.now) (known-legal c.args.book.now c.history.ensures.legal))
+loop-i-init g c = rw c.new-talk.ensures (begins c.args.rules.now.limit (record { known = known_alone c.args.book.now; link = g.A.Acquirer.link c.args.link.now; counts = g.P.Patience.counts c.args.patience.now }) (g.S.Source.source c.args.input.now) (g.K.Sink.sink c.args.output.now) (known-legal c.args.book.now c.history_is_legal.ensures))
 
 pub step-requires-clause-closing : goal.step-requires-clause-closing
 step-requires-clause-closing g c = closes_known c.fetch-fetched.result c.fetch-fetched.ensures.fetches

@@ -1,14 +1,15 @@
-use Rattle.std.proofs.Common.{◌≡◌, false, sym, subst, IsTrue}
+use Rattle.std.proofs.Common.{◌≡◌, ◌+◌, false, length, sym, subst, IsTrue}
 use Rattle.ph_http.specs.declared.message.Reply.{Reply}
 use Rattle.ph_http.specs.Replies.{is_status}
 use Rattle.ph_book.specs.declared.acts.Act.{Act}
 use Rattle.ph_book.specs.declared.acts.Act.TheVariants as act
 use Rattle.ph_book.specs.declared.acts.Answer.TheVariants as answer
-use Rattle.ph_book.specs.Answers.{IsAnswerTo}
-use Rattle.ph_book.specs.Entries.{deed_of, finish_entry, park_entry, tick_entry}
+use Rattle.ph_book.specs.Answers.{IsAnswerTo, Says}
+use Rattle.ph_book.specs.Entries.{deed_of, entry_of, finish_entry, park_entry, resume_entry, tick_entry}
+use Rattle.ph_book.specs.History.{said_to}
 use Rattle.ph_book.specs.Legal.{is_full}
 use Rattle.ph_book.specs.Tickets.{SpendsOwn}
-use Rattle.ph_book.proofs.ReplyLemmas.{park_status, ruled_status, says_reply, says_silence}
+use Rattle.ph_book.proofs.ReplyLemmas.{park_status, ruled_status, says_reply, says_silence, says_wait}
 use Rattle.ph_book.proofs.HistoryLemmas.{has_room, lawful_entered, replies_grow}
 use Rattle.ph_book.proofs.StepLemmas.{finish_room, park_room}
 use Rattle.ph_book.proofs.book.Book.apply.Goals as goal
@@ -62,3 +63,22 @@ pub returns-in-Ok-tick-clause-replies : goal.returns-in-Ok-tick-clause-replies
 returns-in-Ok-tick-clause-replies c =
     replies_grow c.args.self.now c.tick.new.self 0 c.args.caller (tick_entry c.args.caller c.in-Tick.moment) answer.Done
     c.in-Ok-tick.ensures.entry (says_silence 0 c.args.caller _ c.in-Ok-tick.ensures.said)
+
+pub returns-in-Ok-Some-clause-answer : goal.returns-in-Ok-Some-clause-answer
+returns-in-Ok-Some-clause-answer c =
+    let place = length c.args.self.now.history + 1 in
+    subst (λ (a : Act). Says place c.args.caller (said_to c.args.self.now.setup c.args.self.now.history (entry_of c.args.caller a)) (answer.Wait c.in-Ok-Some.ticket)) (sym c.in-Resume.is)
+    (says_wait place c.args.caller (said_to c.args.self.now.setup c.args.self.now.history (resume_entry c.args.caller)) c.in-Ok-Some.ticket.order c.in-Ok-Some.ticket
+    (rw c.in-Ok-Some.field-0-is at c.in-Ok-Some.ensures.answer) (rw c.in-Ok-Some.field-0-is at c.in-Ok-Some.ensures.ticket))
+
+pub returns-in-Ok-Some-clause-replies : goal.returns-in-Ok-Some-clause-replies
+returns-in-Ok-Some-clause-replies c =
+    let place = length c.args.self.now.history + 1 in
+    replies_grow c.args.self.now c.resume.new.self place c.args.caller (resume_entry c.args.caller) (answer.Wait c.in-Ok-Some.ticket) c.in-Ok-Some.ensures.entry
+    (says_wait place c.args.caller (said_to c.args.self.now.setup c.args.self.now.history (resume_entry c.args.caller)) c.in-Ok-Some.ticket.order c.in-Ok-Some.ticket
+    (rw c.in-Ok-Some.field-0-is at c.in-Ok-Some.ensures.answer) (rw c.in-Ok-Some.field-0-is at c.in-Ok-Some.ensures.ticket))
+
+pub returns-in-Ok-None-clause-replies : goal.returns-in-Ok-None-clause-replies
+returns-in-Ok-None-clause-replies c =
+    replies_grow c.args.self.now c.resume.new.self 0 c.args.caller (resume_entry c.args.caller) answer.Done c.in-Ok-None.ensures.entry
+    (says_silence 0 c.args.caller (said_to c.args.self.now.setup c.args.self.now.history (resume_entry c.args.caller)) (rw c.in-Ok-None.field-0-is at c.in-Ok-None.ensures.none))

@@ -5,14 +5,15 @@ use Rattle.ph_book.specs.declared.acts.Deed.TheVariants as deed
 use Rattle.ph_book.specs.History.{Effect, outcome_rows, parked_outcome}
 use Rattle.ph_book.specs.Replies.{Replies}
 use Rattle.ph_book.proofs.HistoryLemmas.{book_is}
+use Rattle.ph_book.proofs.KeepLemmas.{park_keeps}
 use Rattle.ph_book.proofs.StepLemmas.{park_book, park_is, parked_weight, held_entry, held_live}
 use Rattle.ph_book.proofs.book.Book.park.Goals as goal
 
 pub one_less-live-requires : goal.one_less-live-requires
-one_less-live-requires c = held_live _ _ _ _ _ _ _ _ c.args.caller c.args.ticket c.self.view_is c.self.invariant.0 c.requires.own
+one_less-live-requires c = held_live _ _ _ _ _ _ _ _ _ c.args.caller c.args.ticket c.self.view_is c.self.invariant.0 c.requires.own
 
 pub park-requires : goal.park-requires
-park-requires c = record { live = held_entry _ _ _ _ _ _ _ _ c.args.caller c.args.ticket c.self.view_is c.self.invariant.0 c.requires.own }
+park-requires c = record { live = held_entry _ _ _ _ _ _ _ _ _ c.args.caller c.args.ticket c.self.view_is c.self.invariant.0 c.requires.own }
 
 pub invariant_of-self : goal.invariant_of-self
 invariant_of-self c =
@@ -33,10 +34,11 @@ invariant_of-self c =
     let rows = room.for_rows in
     let places = room.for_entries in
     let weight = room.for_weight in (
-      book_is _ _ _ _ _ _ _ _ _ _ _ _
-          (park_book _ _ _ _ _ _ _ _ c.one_less-live.result place c.args.caller c.args.ticket c.args.why row c.self.view_is c.self.invariant.0
-          c.requires.own c.requires.caller refl made fewer)
-          entries c.push_row.ensures.rows c.push_row.ensures.time (omega (arith, weighs, size, c.row_weight.ensures)) c.park.ensures.after,
+      book_is _ _ _ _ _ _ _ _ _ _ _ _ _ _
+          (park_book _ _ _ _ _ _ _ _ _ c.one_less-live.result place c.args.caller c.args.ticket c.args.why row _ c.self.view_is c.self.invariant.0
+          c.requires.own c.requires.caller refl made fewer
+          (park_keeps _ _ _ _ _ _ _ _ _ c.args.caller c.args.ticket c.args.why c.self.view_is c.self.invariant.0 c.requires.own c.requires.caller) c.self.invariant.0.statuses)
+          entries c.push_row.ensures.rows c.push_row.ensures.time (omega (arith, weighs, size, c.row_weight.ensures)) c.park.ensures.after refl,
       record {
         for_entries = omega (arith, count, places, fewer, c.push_reserved.ensures.capacity);
         for_rows = omega (arith, rows, fewer, c.push_row.ensures.room);
@@ -47,5 +49,5 @@ invariant_of-self c =
 
 pub returns-clause-said : goal.returns-clause-said
 returns-clause-said c =
-    ap (λ (effect : Effect). effect.said) (park_is _ _ _ _ _ _ _ _ _ c.args.caller c.args.ticket c.args.why c.self.view_is c.self.invariant.0 c.requires.own refl)
+    ap (λ (effect : Effect). effect.said) (park_is _ _ _ _ _ _ _ _ _ _ c.args.caller c.args.ticket c.args.why c.self.view_is c.self.invariant.0 c.requires.own refl)
     ∙ ap Replies (sym c.reply.ensures)

@@ -1,0 +1,37 @@
+//! What payhost says to a person whose words ask for nothing that it does.
+
+use ph_base::Bytes;
+use ph_host::Misuse;
+
+// All that payhost does today.
+const HELP: &str = "payhost answers a profile of the Stripe API v1 (docs/PROFILE.md).
+
+    payhost serve --port P    answers HTTP on 127.0.0.1:P, until it is stopped
+        --workers W           connections that are served at once, 1 to 16 (4)
+        --connections C       ends when each worker has served C connections, 1 to 1000000 (1000000)
+    payhost stdio             answers the requests of standard input on standard output
+
+    Both take, in any order:
+        --key K               the API key: sk_test_ and more, 9 to 255 visible characters (sk_test_payhost)
+        --clock T             the moment at which the book begins, in seconds since 1970 (1700000000)
+        --patience N          how often an acquirer that hasn't answered is asked again, 0 to 1000000 (1000)";
+
+/// Tells what is wrong with the words; where they ask for help, all that payhost does.
+pub fn tell(rt: &HostRuntime, misuse: &Misuse<'_>, words: &[Bytes]) {
+    let _ = if asks_for_help(words) {
+        eprintln!(rt; "{HELP}")
+    } else {
+        eprintln!(rt; "payhost: {misuse}; payhost --help says more")
+    };
+}
+
+// Whether the words ask for help: one of them does.
+fn asks_for_help(words: &[Bytes]) -> bool {
+    for word in words {
+        match word.as_slice() {
+            b"--help" | b"-h" | b"help" => return true,
+            _ => {}
+        }
+    }
+    false
+}

@@ -1,0 +1,8 @@
+//! What no session shows: several workers over one book.
+
+mod gates;
+mod link;
+mod sockets;
+mod told;
+mod two;
+mod words;

@@ -1,0 +1,32 @@
+//! Sessions that share one book behind a lock: what each client gets, and what the history then has. It prints the same
+//! whatever the schedule.
+#![tactic(auto)]
+
+mod cases;
+mod inputs;
+mod shown;
+mod worker;
+
+use cases::{Outcome, cut, fifty_each, full, link_fails, patience_ends};
+use std::io;
+
+// Prints what a case gave.
+fn print<R: io::Print>(rt: &R, name: &str, outcome: Outcome) -> io::Result<()> {
+    match outcome {
+        Some(text) => println!(rt; "== {name}\n{text}"),
+        None => println!(rt; "== {name}\nno memory\n"),
+    }
+}
+
+fn main(rt: HostRuntime) -> io::Result<()> {
+    let alloc = rt.alloc();
+    print(
+        &rt,
+        "fifty requests of each of two clients",
+        fifty_each(&rt, alloc),
+    )?;
+    print(&rt, "the history is full", full(&rt, alloc))?;
+    print(&rt, "the bytes end within a request", cut(&rt, alloc))?;
+    print(&rt, "the link fails", link_fails(&rt, alloc))?;
+    print(&rt, "the patience ends", patience_ends(&rt, alloc))
+}
