@@ -125,6 +125,9 @@ park_takes words x e =
     subst (Took deed_fields FitsDeed (codes "park" ∷ words)) (some_is (deed.Park a.0.0 b.0.0, b.0.1) x b.2)
     (behind (ta.0 ∙ behind (tb.1 ∙ ap (λ word. word ∷ b.0.1) (why_takes tb.0 b.0.0 tb.2))), ta.1)
 
+resume_takes : (words : List (List ℕ)) (x : Deed × List (List ℕ)) → Some (deed.Resume, words) ≡ Some x → Took deed_fields FitsDeed (codes "resume" ∷ words) x
+resume_takes words x e = subst (Took deed_fields FitsDeed (codes "resume" ∷ words)) (some_is (deed.Resume, words) x e) (refl, tt)
+
 tick_takes : (words : List (List ℕ)) (x : Deed × List (List ℕ)) → tick_at words ≡ Some x → Took deed_fields FitsDeed (codes "tick" ∷ words) x
 unfolding tick_at
 tick_takes words x e =
@@ -138,8 +141,9 @@ deed_takes w ws x e =
     kind_is w (codes "call") _ _ x e (λ h e. rw h (call_takes ws x e))
     (λ e. kind_is w (codes "finish") _ _ x e (λ h e. rw h (finish_takes ws x e))
     (λ e. kind_is w (codes "park") _ _ x e (λ h e. rw h (park_takes ws x e))
+    (λ e. kind_is w (codes "resume") _ _ x e (λ h e. rw h (resume_takes ws x e))
     (λ e. kind_is w (codes "tick") _ None x e (λ h e. rw h (tick_takes ws x e))
-    (λ e. absurd cc))))
+    (λ e. absurd cc)))))
 
 -- the fields of a deed are its kind and the others
 deed_again : (d : Deed) → FitsDeed d → (field_at (deed_fields d) >>= λ kind. deed_by kind.0 kind.1) ≡ Some (d, [])
@@ -147,6 +151,7 @@ unfolding deed_by call_at finish_at park_at tick_at
 deed_again (deed.Call raw) fits = rw (raw_again raw [] fits) refl
 deed_again (deed.Finish run r) fits = rw (number_field_again run (ruling_word r ∷ []) fits, by_word_again ruling_of (ruling_word r) r [] (ruling_again r)) refl
 deed_again (deed.Park run w) fits = rw (number_field_again run (why_word w ∷ []) fits, by_word_again why_of (why_word w) w [] (why_again w)) refl
+deed_again deed.Resume fits = refl
 deed_again (deed.Tick moment) fits = rw (number_field_again moment [] fits) refl
 
 -- ---- lines
@@ -192,6 +197,7 @@ deed_plain (deed.Call raw) fits =
     (refl, (octets_plain (Some raw.method) fits.method, (octets_plain (Some raw.path) fits.path, (octets_plain raw.query fits.query, (octets_plain raw.auth fits.auth, (octets_plain raw.key fits.key, (octets_plain raw.account fits.account, (flag_plain raw.close, (octets_plain (Some raw.body) fits.body, tt)))))))))
 deed_plain (deed.Finish run r) fits = (refl, (decimal_plain run fits, (ruling_plain r, tt)))
 deed_plain (deed.Park run w) fits = (refl, (decimal_plain run fits, (why_plain w, tt)))
+deed_plain deed.Resume fits = (refl, tt)
 deed_plain (deed.Tick moment) fits = (refl, (decimal_plain moment fits, tt))
 
 -- what is read from a line is what it says

@@ -74,6 +74,7 @@ deed_by kind words =
     if bytes_eq kind (codes "call") then call_at words
     else if bytes_eq kind (codes "finish") then finish_at words
     else if bytes_eq kind (codes "park") then park_at words
+    else if bytes_eq kind (codes "resume") then Some (deed.Resume, words)
     else if bytes_eq kind (codes "tick") then tick_at words
     else None
 
@@ -111,6 +112,7 @@ abbrev pub FitsDeed : Deed → Type 0
 FitsDeed (deed.Call raw) = FitsRaw raw
 FitsDeed (deed.Finish run ruling) = run < 2 ^ 64
 FitsDeed (deed.Park run why) = run < 2 ^ 64
+FitsDeed deed.Resume = Unit {0}
 FitsDeed (deed.Tick moment) = moment < 2 ^ 64
 
 pub record FitsEntry (entry : Entry) : Type 0 where

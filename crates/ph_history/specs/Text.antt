@@ -42,6 +42,7 @@ abbrev pub deed_fields : Deed → List (List ℕ)
 deed_fields (deed.Call raw) = codes "call" ∷ raw_fields raw
 deed_fields (deed.Finish run ruling) = codes "finish" ∷ decimal run ∷ ruling_word ruling ∷ []
 deed_fields (deed.Park run why) = codes "park" ∷ decimal run ∷ why_word why ∷ []
+deed_fields deed.Resume = codes "resume" ∷ []
 deed_fields (deed.Tick moment) = codes "tick" ∷ decimal moment ∷ []
 
 -- the fields of an entry

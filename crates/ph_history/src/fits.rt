@@ -46,6 +46,7 @@ fn deed_fits(deed: &Deed)
         Deed::Call(raw) => raw_fits(raw),
         Deed::Finish(run, _) => number_fits(*run),
         Deed::Park(run, _) => number_fits(*run),
+        Deed::Resume => {}
         Deed::Tick(moment) => number_fits(*moment),
     }
 }

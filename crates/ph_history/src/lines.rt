@@ -90,6 +90,8 @@ fn deed<'a>(
         finish(rest)
     } else if kind == b"park".as_slice() {
         park(rest)
+    } else if kind == b"resume".as_slice() {
+        Ok((Deed::Resume, rest))
     } else if kind == b"tick".as_slice() {
         tick(rest)
     } else {

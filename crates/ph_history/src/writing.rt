@@ -51,6 +51,7 @@ fn write_entry<K: Sink>(sink: &mut K, entry: &Entry) -> Result<(), WriteFailed>
             let fields = [caller, Field::Word(b"park"), Field::Number(*run), why];
             write_line(sink, b"e", &fields)
         }
+        Deed::Resume => write_line(sink, b"e", &[caller, Field::Word(b"resume")]),
         Deed::Tick(moment) => {
             let fields = [caller, Field::Word(b"tick"), Field::Number(*moment)];
             write_line(sink, b"e", &fields)

@@ -1,7 +1,7 @@
 //! A history that is entered anew, entry by entry.
 ghost use Rattle.std.specs.Prelude.{◌≡◌, ◌+◌, ◌<◌, ◌^◌, ◌≤◌, [], length, IfOk, IfErr, OnOk};
 ghost use Rattle.ph_book.specs.declared.acts.Deed.TheVariants as deed;
-ghost use Rattle.ph_book.specs.Entries.{call_entry, park_entry, tick_entry};
+ghost use Rattle.ph_book.specs.Entries.{call_entry, park_entry, resume_entry, tick_entry};
 ghost use Rattle.ph_book.specs.History.{said_to};
 ghost use Rattle.ph_book.specs.Laws.{runs_of};
 ghost use Rattle.ph_book.specs.Legal.{IsLegal};
@@ -104,6 +104,7 @@ impl Replayed {
             }
             Deed::Finish(run, ruling) => self.finish(entry.caller, *run, *ruling),
             Deed::Park(run, why) => self.park(entry.caller, *run, *why),
+            Deed::Resume => self.resume(entry.caller),
             Deed::Tick(moment) => self.tick(entry.caller, *moment),
         }
     }
@@ -183,6 +184,28 @@ impl Replayed {
         let reply = given_up(&mut self.book, ticket, why);
         self.replies.push_reserved(tell(place, &reply));
         Ok(())
+    }
+
+    // Enters that the attempt that waits longest is taken up again.
+    fn resume(&mut self, caller: u64) -> Result<(), Unentered>
+        requires caller { caller < 2 ^ 62 }
+        ensures entered { OnOk result (self.new.book ≡ entered self.old.book (resume_entry caller)) }
+        ensures unentered { IfErr result (λ why. IsUnentered self.old.book.setup self.old.book.history (resume_entry caller) why) }
+    {
+        self.tickets.reserve(1)?;
+        runs_follow(self.book.setup(), self.book.history());
+        match self.book.apply(caller, Act::Resume) {
+            Ok(Answer::Wait(ticket)) => {
+                self.tickets.push_reserved(ticket);
+                Ok(())
+            }
+            Ok(Answer::Done) => Ok(()),
+            Ok(Answer::Reply(_)) => unreachable!(),
+            Err((act, refused)) => {
+                let Act::Resume = act else { unreachable!() };
+                Err(reason_of(refused))
+            }
+        }
     }
 
     // Enters a moment of the clock.
