@@ -1,5 +1,5 @@
 """A checkout by Stripe's Python library against payhost: a declined card, a customer who authenticates, a manual capture, a
-refund, the balance. Prints a line for each step, and ends with an error where an answer isn't the expected one.
+refund, the balance, and retries under idempotency keys. Prints a line for each step, and ends with an error where an answer isn't the expected one.
 
     /usr/bin/python3 examples/stripe_python.py http://127.0.0.1:12111
 """
@@ -58,10 +58,27 @@ expect("a refund", (refund.status, refund.amount), ("succeeded", 1000))
 balance = stripe.Balance.retrieve()
 expect("the pending balance", balance.pending[0].amount, 2000 - 88 + 3000 - 117 - 1000)
 
-# The library sends an Idempotency-Key with each POST. payhost keeps no keys yet: a call that is sent again is a new one.
-first = stripe.PaymentIntent.create(amount=700, currency="usd", idempotency_key="order-8")
-again = stripe.PaymentIntent.create(amount=700, currency="usd", idempotency_key="order-8")
-expect("keys are kept", first.id == again.id, False)
+# A call that is sent again under its key is the same call: its reply comes again, and says so. With another amount the key
+# is refused.
+order = dict(currency="usd", payment_method="pm_card_visa", confirm=True, idempotency_key="order-8")
+first = stripe.PaymentIntent.create(amount=700, **order)
+again = stripe.PaymentIntent.create(amount=700, **order)
+expect("the same order again", (again.id == first.id, again.last_response.headers["Idempotent-Replayed"]), (True, "true"))
+try:
+    stripe.PaymentIntent.create(amount=800, **order)
+    sys.exit("a key was taken for another amount")
+except stripe.error.IdempotencyError as error:
+    expect("its key with another amount", error.http_status, 400)
+
+# An acquirer that answers the twenty-first time that it is asked, and payhost waits for nine answers a request. The library
+# is told to try again, and sends the same key each time: the third request is answered.
+stripe.max_network_retries = 2
+slow = stripe.PaymentIntent.create(amount=2500, currency="usd", payment_method="pm_payhost_slow_20", confirm=True)
+expect("a slow acquirer, after two retries", (slow.status, slow.amount_received), ("succeeded", 2500))
+
+# Both orders were charged once: 7.00 and 25.00, less 0.50 and 1.03.
+balance = stripe.Balance.retrieve()
+expect("the pending balance", balance.pending[0].amount, 3795 + 700 - 50 + 2500 - 103)
 
 # An error of another kind.
 try:

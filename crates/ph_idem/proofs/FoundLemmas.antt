@@ -1,5 +1,5 @@
 -- What is found among the records that are kept, after every list of turns.
-use Rattle.std.proofs.Common.{◌≡◌, ℕ, suc, ◌<◌, ◌≤◌, ◌+◌, ◌==◌, ◌&&◌, ◌⊎◌, nat_le, Bool, true, false, if◌then◌else◌, List, [], ◌∷◌, ◌++◌, length, map, Option, Some, None, IsTrue, bytes_eq, refl, sym, ap, ◌∙◌, arith, subst, inl, inr}
+use Rattle.std.proofs.Common.{◌≡◌, ℕ, suc, ◌<◌, ◌≤◌, ◌+◌, ◌==◌, ◌&&◌, nat_le, Bool, true, false, if◌then◌else◌, List, [], ◌∷◌, ◌++◌, length, map, Option, Some, None, bytes_eq, refl, sym, ap, ◌∙◌, arith, subst, inl, inr}
 use Rattle.std.specs.List.{find}
 use Rattle.std.proofs.lemmas.Bool.Decides.{nat_tests}
 use Rattle.std.proofs.lemmas.Slice.Eq.{bytes_eq-Decides}
@@ -8,13 +8,12 @@ use Rattle.ph_doings.specs.Records.{Opened, Never, Opens, Said, Replies, Silence
 use Rattle.ph_doings.specs.Records as doing
 use Rattle.ph_doings.specs.Standings.{Standing, NotBegun, Stands, is_parked, standing_of}
 use Rattle.ph_doings.specs.Standings as attempt
-use Rattle.ph_idem.specs.declared.found.Found.{Found}
-use Rattle.ph_idem.specs.declared.found.Found.TheVariants.{Fresh, Differs, Begun, Saved}
+use Rattle.ph_idem.specs.declared.found.Found.TheVariants.{Fresh, Differs}
 use Rattle.ph_idem.specs.declared.key_record.KeyRecord.{KeyRecord}
 use Rattle.ph_idem.specs.declared.key_record.Saved.{Saved as Reply}
 use Rattle.ph_idem.specs.declared.asked.Asked.{Asked}
 use Rattle.ph_idem.specs.Kept.{Opening, has_key, is_like, kept_of, opening_of, openings, records_after, reference_said, reply_found}
-use Rattle.ph_idem.specs.Laws.{FindsAs, FindsLive, FindsParked, FindsSaved, RecordsAreFound}
+use Rattle.ph_idem.specs.Laws.{FindsAs, RecordsAreFound}
 use Rattle.ph_idem.specs.Records as kept
 use Rattle.ph_idem.specs.Shapes.{is_same_shape}
 

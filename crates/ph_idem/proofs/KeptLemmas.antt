@@ -8,8 +8,8 @@ use Rattle.ph_facts.specs.Touches.{Cause}
 use Rattle.ph_items.specs.declared.intents.CaptureMethod.{CaptureMethod}
 use Rattle.ph_doings.specs.Confirmations.{begun_at, begun_by}
 use Rattle.ph_doings.specs.Doings.{Doing, Leaves, Puts, Edits, Begins, Resumes, Parks, Settles}
-use Rattle.ph_doings.specs.Lawful.{IsLawful, MayDo}
-use Rattle.ph_doings.specs.Records.{AreLawful, Found, Saved, Said, Replies, Silence, Waits, Turn, doings_of, is_over, last_opened, result_of, result_of_attempt, result_said, said_at, settled_at, time_of}
+use Rattle.ph_doings.specs.Lawful.{MayDo}
+use Rattle.ph_doings.specs.Records.{Saved, Said, Replies, Silence, Waits, Turn, doings_of, is_over, last_opened, result_of_attempt, result_said, said_at, settled_at, time_of}
 use Rattle.ph_doings.specs.Standings.{Live, Parked, Settled, Standing, NotBegun, Stands, standing_of}
 use Rattle.ph_doings.proofs.Newest.{has_begun}
 use Rattle.ph_doings.proofs.Kept.{sound}
@@ -18,8 +18,8 @@ use Rattle.ph_idem.specs.declared.key_record.KeyRecord.{KeyRecord}
 use Rattle.ph_idem.specs.declared.key_record.Saved.{Saved as Reply}
 use Rattle.ph_idem.specs.declared.asked.Asked.{Asked}
 use Rattle.ph_idem.specs.Kept.{Opening, has_key, is_like, kept_of, opening_of, openings, records_after, reference_said, reply_found}
-use Rattle.ph_idem.specs.Laws.{AreTold, RecordsAreKept, Tells, TellsIf, after_turn, opened_as, saved_under, with_opened, with_settled}
-use Rattle.ph_idem.specs.Records.{is_attached, is_entry, update_first, with_result}
+use Rattle.ph_idem.specs.Laws.{RecordsAreKept, Tells, TellsIf, opened_as, saved_under, with_opened, with_settled}
+use Rattle.ph_idem.specs.Records.{is_attached, with_result}
 use Rattle.ph_idem.proofs.OpenLemmas.{AreOpened, IsOpened, are_opened, lawful_doings, length_doings}
 
 -- ---- what was saved for a call, after one doing more

@@ -1,11 +1,10 @@
 -- The records that were opened, and what was said to their calls.
-use Rattle.std.proofs.Common.{◌≡◌, ℕ, suc, ◌<◌, ◌≤◌, ◌==◌, ◌&&◌, Bool, true, false, if◌then◌else◌, List, [], ◌∷◌, ◌++◌, length, Option, Some, None, bytes_eq, refl, sym, ap, ◌∙◌, arith}
-use Rattle.std.specs.List.{find}
+use Rattle.std.proofs.Common.{◌≡◌, ℕ, suc, ◌<◌, ◌≤◌, ◌==◌, Bool, true, false, if◌then◌else◌, List, [], ◌∷◌, ◌++◌, length, Option, Some, None, refl, ap, ◌∙◌, arith}
 use Rattle.std.proofs.lemmas.Bool.Decides.{nat_tests}
 use Rattle.ph_doings.specs.Confirmations.{begun_at, begun_by}
 use Rattle.ph_doings.specs.Doings.{Doing}
 use Rattle.ph_doings.specs.Lawful.{IsLawful}
-use Rattle.ph_doings.specs.Records.{AreLawful, Opened, Never, Opens, Said, Replies, Silence, Waits, Turn, doings_of, is_over, last_opened, opened_by, said_at, time_of}
+use Rattle.ph_doings.specs.Records.{AreLawful, Said, Replies, Silence, Waits, Turn, doings_of, is_over, last_opened, said_at, time_of}
 use Rattle.ph_idem.specs.declared.asked.Asked.{Asked}
 use Rattle.ph_idem.specs.Kept.{Opening, has_key, is_like, opening_of, openings}
 use Rattle.ph_idem.specs.Laws.{AreTold, Tells, TellsIf}

@@ -1,9 +1,8 @@
 -- Shapes that are the same.
-use Rattle.std.proofs.Common.{◌≡◌, ℕ, ◌&&◌, ◌↔◌, Bool, true, false, List, IsTrue, bytes_eq, refl, sym, ap, ◌∙◌, rules}
+use Rattle.std.proofs.Common.{◌≡◌, Bool, true, false, List, IsTrue, refl, sym, ◌∙◌}
 use Rattle.ph_form.specs.declared.leaf.Leaf.{Leaf}
 use Rattle.ph_form.proofs.EntryLemmas.{same_leaves}
-use Rattle.ph_idem.specs.declared.shape.Shape.{Shape}
-use Rattle.ph_idem.specs.Shapes.{is_same_form, is_same_leaf, is_same_shape}
+use Rattle.ph_idem.specs.Shapes.{is_same_form}
 
 -- a test that is true exactly where two forms are equal is the one of their leaves
 pub form_test : (b : Bool) (xs ys : List Leaf) → (IsTrue b → xs ≡ ys) → (xs ≡ ys → IsTrue b) → b ≡ is_same_form xs ys

@@ -9,12 +9,13 @@ use crate::key_record::{KeyRecord, Saved};
 use crate::shape::Shape;
 use ph_base::{Bytes, NoMemory};
 use std::alloc::Global;
+use std::collections::VecDeque;
 use std::marker::Model;
 
 /// The records of keys. Contracts see their list, the newest first, so that a search meets the latest of a key first.
 #[derive(Drop, Debug)]
 pub struct Records {
-    records: Vec<KeyRecord>,
+    records: VecDeque<KeyRecord>,
 }
 
 impl Model for Records {
@@ -27,53 +28,38 @@ impl Model for Records {
 }
 
 // The latest record of an account and key.
-fn latest<'a>(records: &'a [KeyRecord], account: u64, key: &[u8]) -> Option<&'a KeyRecord>
-    ensures { option_copied result ≡ find (is_of account key.now) records.now }
+fn latest<'a>(records: &'a VecDeque<KeyRecord>, account: u64, key: &[u8]) -> Option<&'a KeyRecord>
+    ensures { option_copied result ≡ find (is_of account key.now) records.now.items }
 {
-    for record in records {
-        if record.is_of(account, key) {
-            return Some(record);
-        }
-    }
-    None
+    records.iter().find(|record| record.is_of(account, key))
 }
 
 // The record that an entry opened.
-fn opened_by(records: &[KeyRecord], entry: u64) -> Option<&KeyRecord>
-    ensures { option_copied result ≡ find (is_entry entry) records.now }
+fn opened_by(records: &VecDeque<KeyRecord>, entry: u64) -> Option<&KeyRecord>
+    ensures { option_copied result ≡ find (is_entry entry) records.now.items }
 {
-    for record in records {
-        if record.entry == entry {
-            return Some(record);
-        }
-    }
-    None
+    records.iter().find(|record| record.entry == entry)
 }
 
 // Where the record that an entry opened stands.
-fn place_of(records: &[KeyRecord], entry: u64) -> Option<usize>
-    ensures { result ≡ position (is_entry entry) records.now }
+fn place_of(records: &VecDeque<KeyRecord>, entry: u64) -> Option<usize>
+    ensures { result ≡ position (is_entry entry) records.now.items }
 {
     records.iter().position(|record| record.entry == entry)
 }
 
 // The latest record that an attempt is attached to.
-fn attached<'a>(records: &'a [KeyRecord], reference: u64) -> Option<&'a KeyRecord>
-    ensures { option_copied result ≡ find (is_attached reference) records.now }
+fn attached(records: &VecDeque<KeyRecord>, reference: u64) -> Option<&KeyRecord>
+    ensures { option_copied result ≡ find (is_attached reference) records.now.items }
 {
-    for record in records {
-        if record.is_attached(reference) {
-            return Some(record);
-        }
-    }
-    None
+    records.iter().find(|record| record.is_attached(reference))
 }
 
 // Whether the entry of a place opened the newest record.
-fn is_newest(records: &[KeyRecord], entry: u64) -> bool
-    ensures { result ≡ is_newest entry records.now }
+fn is_newest(records: &VecDeque<KeyRecord>, entry: u64) -> bool
+    ensures { result ≡ is_newest entry records.now.items }
 {
-    match records.first() {
+    match records.front() {
         Some(record) => record.entry == entry,
         None => false,
     }
@@ -85,7 +71,7 @@ impl Records {
         ensures { result ≡ [] }
     {
         Records {
-            records: Vec::new(alloc),
+            records: VecDeque::new(alloc),
         }
     }
 
@@ -137,7 +123,7 @@ impl Records {
             reference: None,
             result: None,
         };
-        self.records.insert(0, record)?;
+        self.records.push_front(record)?;
         Ok(())
     }
 
@@ -147,7 +133,7 @@ impl Records {
         ensures { self.new ≡ taken_back entry self.old }
     {
         if is_newest(&self.records, entry) {
-            let _record = self.records.remove(0);
+            let _record = self.records.pop_front();
         }
     }
 

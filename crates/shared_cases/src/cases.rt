@@ -1,11 +1,12 @@
 //! The cases. `None` is want of memory.
 ghost use Rattle.std.specs.Prelude.{◌≡◌, IfSome};
 
-use crate::inputs::{creates, get, payment};
-use crate::shown::{calls_in_order, count, history, session, written};
-use crate::worker::{connect, serve, serve_all};
+use crate::inputs::{creates, get, keyed_payment, payment};
+use crate::meanwhile::Meanwhile;
+use crate::shown::{asked, calls_in_order, count, history, session, written};
+use crate::worker::{Worker, connect, serve, serve_all};
 use ph_bank::{Cue, MemAcquirer};
-use ph_base::Bytes;
+use ph_base::{Bytes, Ruling};
 use ph_book::{Book, Setup, history_is_legal};
 use ph_lock::{Lock, Pass};
 use std::alloc::Global;
@@ -128,6 +129,77 @@ fn parked<R: Wait>(rt: &R, alloc: Global, cues: &[Cue]) -> Outcome {
         cues,
     };
     run_two(rt, alloc, 1000, clients, "processing")
+}
+
+// Prints a client's session, and what its link was asked of.
+fn shown(alloc: Global, worker: &Worker<MemAcquirer>) -> Outcome {
+    let mut text = session(alloc, worker).ok()?;
+    let replayed = written(&worker.conn).contains("Idempotent-Replayed: true");
+    if replayed {
+        text.push_str("  replayed\n").ok()?;
+    }
+    text.push_str(asked(alloc, &worker.link).ok()?.as_str())
+        .ok()?;
+    Some(text)
+}
+
+// A client pays under a key. While its acquirer, which goes by these cues, is asked, a second client sends the same request;
+// when the first has its reply, a third sends it again, and a fourth asks for the payment intent that the first made.
+fn serve_keyed<R: Wait>(
+    rt: &R,
+    alloc: Global,
+    lock: &Lock<Book>,
+    first: &mut Pass<Book>,
+    cues: &[Cue],
+) -> Outcome
+    requires lock { first.old.lock ≡ lock.now }
+    ensures same { first.new ≡ first.old }
+{
+    let request = keyed_payment(alloc, "order-7").ok()?;
+    let again = keyed_payment(alloc, "order-7").ok()?;
+    let later = keyed_payment(alloc, "order-7").ok()?;
+    let retrieve = get(alloc, "/v1/payment_intents/pi_0000000000000002").ok()?;
+    let two = connect(alloc, lock.split(rt, first), again, link(alloc, &[])?);
+    let meanwhile = Meanwhile::new(rt, alloc, lock, link(alloc, cues)?, two);
+    let mut one = connect(alloc, lock.split(rt, first), request, meanwhile);
+    let approves = link(alloc, &[Cue::Decide(Ruling::Approved)])?;
+    let mut three = connect(alloc, lock.split(rt, first), later, approves);
+    let mut four = connect(alloc, lock.split(rt, first), retrieve, link(alloc, &[])?);
+    serve(rt, alloc, lock, &mut one);
+    serve(rt, alloc, lock, &mut three);
+    let note = lock.note(&mut one.pass);
+    lock.meet(&mut four.pass, note);
+    serve(rt, alloc, lock, &mut four);
+    let mut text = session(alloc, &one).ok()?;
+    let (link, two) = one.link.into_parts();
+    text.push_str(asked(alloc, &link).ok()?.as_str()).ok()?;
+    for worker in &[two, three, four] {
+        text.push_str(shown(alloc, worker)?.as_str()).ok()?;
+    }
+    Some(text)
+}
+
+// Serves these clients over a new book, and prints the history behind their sessions.
+fn run_keyed<R: Wait>(rt: &R, alloc: Global, cues: &[Cue]) -> Outcome {
+    let (lock, mut first) = shared(alloc, 1000)?;
+    let served = serve_keyed(rt, alloc, &lock, &mut first, cues);
+    let (book, _view) = lock.close(rt, first);
+    let mut text = served?;
+    text.push_str(history(alloc, book.history()).ok()?.as_str())
+        .ok()?;
+    Some(text)
+}
+
+/// The second client is told that the key is in use, the first is answered, and the third gets that reply again: its acquirer
+/// isn't asked.
+pub fn key_in_use<R: Wait>(rt: &R, alloc: Global) -> Outcome {
+    run_keyed(rt, alloc, &[Cue::Decide(Ruling::Approved)])
+}
+
+/// The first client's link fails, so its run is left, and the third takes the same attempt up again: its acquirer is asked under
+/// the same reference.
+pub fn key_left<R: Wait>(rt: &R, alloc: Global) -> Outcome {
+    run_keyed(rt, alloc, &[Cue::Fail])
 }
 
 // Serves two clients at once, each in a thread of its own, and prints how many replies each got.

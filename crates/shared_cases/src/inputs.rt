@@ -32,6 +32,18 @@ pub fn post(alloc: Global, path: &str, body: &str) -> Result<Vec<u8>, AllocError
     Ok(bytes)
 }
 
+/// A create that is confirmed, under this idempotency key.
+pub fn keyed_payment(alloc: Global, key: &str) -> Result<Vec<u8>, AllocError> {
+    let body = "amount=2000&currency=usd&confirm=true&payment_method=pm_card_visa";
+    let head = format!(in alloc;
+        "POST /v1/payment_intents HTTP/1.1\r\nAuthorization: Bearer sk_test_payhost\r\nIdempotency-Key: {key}\r\nContent-Length: {}\r\n\r\n",
+        body.len()
+    )?;
+    let mut bytes = head.into_bytes();
+    bytes.extend_from_slice(body.as_bytes())?;
+    Ok(bytes)
+}
+
 /// A retrieve.
 pub fn get(alloc: Global, path: &str) -> Result<Vec<u8>, AllocError> {
     let head = format!(in alloc;

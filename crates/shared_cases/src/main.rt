@@ -4,10 +4,11 @@
 
 mod cases;
 mod inputs;
+mod meanwhile;
 mod shown;
 mod worker;
 
-use cases::{Outcome, cut, fifty_each, full, link_fails, patience_ends};
+use cases::{Outcome, cut, fifty_each, full, key_in_use, key_left, link_fails, patience_ends};
 use std::io;
 
 // Prints what a case gave.
@@ -28,5 +29,11 @@ fn main(rt: HostRuntime) -> io::Result<()> {
     print(&rt, "the history is full", full(&rt, alloc))?;
     print(&rt, "the bytes end within a request", cut(&rt, alloc))?;
     print(&rt, "the link fails", link_fails(&rt, alloc))?;
-    print(&rt, "the patience ends", patience_ends(&rt, alloc))
+    print(&rt, "the patience ends", patience_ends(&rt, alloc))?;
+    print(&rt, "a key is in use", key_in_use(&rt, alloc))?;
+    print(
+        &rt,
+        "a key is in use, and its run is left",
+        key_left(&rt, alloc),
+    )
 }

@@ -1,13 +1,14 @@
 //! What a case prints of sessions and of a history.
 
 use crate::worker::Worker;
+use ph_bank::{Acquirer, MemAcquirer};
 use ph_book::{Deed, Entry};
 use ph_io::MemDuplex;
 use std::alloc::{AllocError, Global};
 use std::str;
 
 /// How a session ended, and the status line of each reply that it wrote.
-pub fn session(alloc: Global, worker: &Worker) -> Result<String, AllocError> {
+pub fn session<A: Acquirer>(alloc: Global, worker: &Worker<A>) -> Result<String, AllocError> {
     let mut text = match worker.ended {
         Some(Ok(closed)) => format!(in alloc; "{} replies, {:?}\n", closed.replies, closed.stop)?,
         Some(Err(why)) => format!(in alloc; "broken off: {why:?}\n")?,
@@ -19,6 +20,16 @@ pub fn session(alloc: Global, worker: &Worker) -> Result<String, AllocError> {
             text.push_str(status)?;
             text.push_str("\n")?;
         }
+    }
+    Ok(text)
+}
+
+/// The references that a link was asked of, in order.
+pub fn asked(alloc: Global, link: &MemAcquirer) -> Result<String, AllocError> {
+    let mut text = String::new(alloc);
+    for ask in link.asked() {
+        let line = format!(in alloc; "  asked: {}\n", ask.order.reference)?;
+        text.push_str(line.as_str())?;
     }
     Ok(text)
 }

@@ -1,7 +1,7 @@
 //! One client's session over the shared book.
 ghost use Rattle.std.specs.Prelude.{◌≡◌, All};
 
-use ph_bank::{MemAcquirer, Patience, Turns};
+use ph_bank::{Acquirer, MemAcquirer, Patience, Turns};
 use ph_book::Book;
 use ph_conn::{Closed, TalkError, TalkRules, serve_shared};
 use ph_io::{MemDuplex, MemSink, MemSource};
@@ -12,16 +12,16 @@ use std::thread::{Threads, for_each_mut};
 
 /// A client: its pass, its connection, its link to the acquirer, and how its session ended.
 #[derive(Drop)]
-pub struct Worker {
+pub struct Worker<A: Acquirer> {
     pub pass: Pass<Book>,
     pub conn: MemDuplex,
-    pub link: MemAcquirer,
+    pub link: A,
     pub patience: Turns,
     pub ended: Option<Result<Closed, TalkError>>,
 }
 
 /// A client that sends these bytes.
-pub fn connect(alloc: Global, pass: Pass<Book>, bytes: Vec<u8>, link: MemAcquirer) -> Worker
+pub fn connect<A: Acquirer>(alloc: Global, pass: Pass<Book>, bytes: Vec<u8>, link: A) -> Worker<A>
     ensures { result.pass ≡ pass }
 {
     Worker {
@@ -38,7 +38,7 @@ pub fn connect(alloc: Global, pass: Pass<Book>, bytes: Vec<u8>, link: MemAcquire
 }
 
 /// Serves a client's connection.
-pub fn serve<R: Wait>(rt: &R, alloc: Global, lock: &Lock<Book>, worker: &mut Worker)
+pub fn serve<R: Wait, A: Acquirer>(rt: &R, alloc: Global, lock: &Lock<Book>, worker: &mut Worker<A>)
     requires lock { worker.old.pass.lock ≡ lock.now }
     ensures lock { worker.new.pass.lock ≡ worker.old.pass.lock }
 {
@@ -60,7 +60,7 @@ pub fn serve_all<R: Threads + Wait + Sync>(
     rt: &R,
     alloc: Global,
     lock: &Lock<Book>,
-    workers: &mut [Worker],
+    workers: &mut [Worker<MemAcquirer>],
 )
     requires { All (λ w. w.pass.lock ≡ lock.now) workers.old }
 {

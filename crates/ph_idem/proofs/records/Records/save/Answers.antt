@@ -6,12 +6,12 @@ use Rattle.ph_idem.proofs.records.Records.save.Goals as goal
 
 pub returns-in-Some : goal.returns-in-Some
 returns-in-Some c =
-    let found : Some c.in-Some.i ≡ position (is_entry c.args.entry) c.self.inside.records.items = rw (c.deref.ensures.value) at c.in-Some.ensures in
+    let found : Some c.in-Some.i ≡ position (is_entry c.args.entry) c.self.inside.records.items = c.in-Some.ensures in
     set_first (is_entry c.args.entry) (with_result (record { status = c.args.status; body = c.args.body })) c.self.inside.records.items c.in-Some.i c.index_mut.result.now c.save.new.self found
     c.index_mut.ensures.value c.save.ensures
     ∙ ap (update_first (is_entry c.args.entry) (with_result (record { status = c.args.status; body = c.args.body }))) c.self.view_is
 
 pub returns-in-None : goal.returns-in-None
 returns-in-None c =
-    let none : None ≡ position (is_entry c.args.entry) c.args.self.now = rw (c.deref.ensures.value, c.self.view_is) at c.in-None.ensures in
+    let none : None ≡ position (is_entry c.args.entry) c.args.self.now = rw (c.self.view_is) at c.in-None.ensures in
     update_none (is_entry c.args.entry) (with_result (record { status = c.args.status; body = c.args.body })) c.args.self.now none
