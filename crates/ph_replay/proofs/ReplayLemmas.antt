@@ -1,5 +1,5 @@
 -- What a replay keeps from entry to entry.
-use Rattle.std.proofs.Common.{◌≡◌, ◌≢◌, ℕ, suc, ◌+◌, ◌^◌, ◌<◌, ◌≤◌, ◌==◌, nat_le, not, Bool, true, false, ◌&&◌, cond, List, [], ◌∷◌, ◌++◌, length, Option, Some, None, refl, sym, ap, ◌∙◌, subst, append_assoc, arith}
+use Rattle.std.proofs.Common.{◌≡◌, ◌≢◌, ℕ, suc, ◌+◌, ◌^◌, ◌<◌, ◌≤◌, ◌==◌, nat_le, not, Bool, true, false, ◌&&◌, cond, List, [], ◌∷◌, ◌++◌, length, get_or, take, drop, Option, Some, None, refl, sym, ap, ◌∙◌, subst, append_assoc, arith}
 use Rattle.std.specs.List.{filter, find, list_all}
 use Rattle.std.proofs.lemmas.Bool.{and_parts, leb-true}
 use Rattle.std.proofs.lemmas.Bool.Decides.{nat_tests}
@@ -24,7 +24,7 @@ use Rattle.ph_book.specs.declared.acts.Deed.{Deed}
 use Rattle.ph_book.specs.declared.acts.Deed.TheVariants as deed
 use Rattle.ph_book.specs.declared.acts.Entry.{Entry}
 use Rattle.ph_book.specs.Answers.{Says}
-use Rattle.ph_book.specs.Entries.{call_entry, finish_entry, park_entry, tick_entry}
+use Rattle.ph_book.specs.Entries.{call_entry, finish_entry, park_entry, resume_entry, tick_entry}
 use Rattle.ph_book.specs.History.{Happening, happening_of, past_of, doings_of, effect_to, said_to}
 use Rattle.ph_book.specs.Laws.{RunsFollow, all_but_run, runs_of}
 use Rattle.ph_book.specs.Legal.{IsAllowed, IsLegal, is_full}
@@ -234,6 +234,18 @@ are_found setup history few legal =
       ticked = λ caller moment. tick_runs setup history caller moment few legal;
     }
 
+-- what holds of a setup and a history that are read from a book holds of the book's
+pub runs_read : (setup read : Setup) (history entries : List Entry) → read ≡ setup → entries ≡ history → RunsFollow read entries → RunsFollow setup history
+runs_read setup read history entries same same_history runs =
+    subst (λ (p : Setup × List Entry). RunsFollow p.0 p.1) (λ i. (same i, same_history i)) runs
+
+-- ---- a book without entries
+
+pub opened : (book : BookState) (setup : Setup) → book ≡ record { setup = setup; history = [] } → IsReplay book.setup book.history [] []
+unfolding told_of doings_of
+opened book setup is = subst (λ (b : BookState). IsReplay b.setup b.history [] []) (sym is)
+    (record { told = refl; kept = record { held = refl; apart = tt; callers = tt } })
+
 -- ---- a call
 
 pub call_replied : (old new : BookState) (caller : ℕ) (raw : Raw) (replies : List Told) (tickets : List Flight) (reply : Reply) (told : Told)
@@ -251,37 +263,70 @@ call_replied old new caller raw replies tickets reply told runs state is says te
       };
     })
 
-pub call_waits : (old new : BookState) (caller : ℕ) (raw : Raw) (replies : List Told) (tickets : List Flight) (ticket : Flight)
-    → RunsFollow old.setup old.history → IsReplay old.setup old.history replies tickets → new ≡ entered old (call_entry caller raw) → caller < 2 ^ 62
-    → Says (length old.history + 1) caller (said_to old.setup old.history (call_entry caller raw)) (answer.Wait ticket)
+-- ---- a run that begins, and nothing said
+
+-- the ticket of a run that begins stands behind the others
+run_begun : (old new : BookState) (caller : ℕ) (entry : Entry) (replies : List Told) (tickets : List Flight) (ticket : Flight)
+    → RunsFollow old.setup old.history → IsReplay old.setup old.history replies tickets → new ≡ entered old entry → caller < 2 ^ 62
+    → IsWait (length old.history + 1) caller (said_to old.setup old.history entry) ticket
+    → ((order : Order) → said_to old.setup old.history entry ≡ Waits order
+        → runs_of old.setup (old.history ++ entry ∷ []) ≡ runs_of old.setup old.history ++ record { caller = caller; run = length old.history + 1; order = order } ∷ [])
     → IsReplay new.setup new.history replies (tickets ++ ticket ∷ [])
-call_waits old new caller raw replies tickets ticket runs state is small says =
-    let wait = says_wait (length old.history + 1) caller (said_to old.setup old.history (call_entry caller raw)) ticket says in
+run_begun old new caller entry replies tickets ticket runs state is small wait begun =
     let flight : Flight = record { caller = caller; run = length old.history + 1; order = wait.order } in
     let run : ticket.run ≡ length old.history + 1 = ap (λ (f : Flight). f.run) wait.ticket_is in
     let own : ticket.caller ≡ caller = ap (λ (f : Flight). f.caller) wait.ticket_is in
     subst (λ (book : BookState). IsReplay book.setup book.history replies (tickets ++ ticket ∷ [])) (sym is) (record {
-      told = told_nothing old.setup old.history (call_entry caller raw) replies (Waits wait.order) state.told wait.said_is refl;
+      told = told_nothing old.setup old.history entry replies (Waits wait.order) state.told wait.said_is refl;
       kept = record {
         held = ap (λ ts. ts ++ ticket ∷ []) state.kept.held ∙ ap (λ (f : Flight). runs_of old.setup old.history ++ f ∷ []) wait.ticket_is
-            ∙ sym (runs.begun caller raw wait.order wait.said_is);
+            ∙ sym (begun wait.order wait.said_is);
         apart = apart_behind tickets ticket (length old.history) (subst (λ ts. list_all (λ flight. nat_le flight.run (length old.history)) ts ≡ true) (sym state.kept.held) runs.numbered) run state.kept.apart;
         callers = callers_behind tickets ticket state.kept.callers (subst (λ n. n < 2 ^ 62) (sym own) small);
       };
     })
 
--- ---- a moment
+pub call_waits : (old new : BookState) (caller : ℕ) (raw : Raw) (replies : List Told) (tickets : List Flight) (ticket : Flight)
+    → RunsFollow old.setup old.history → IsReplay old.setup old.history replies tickets → new ≡ entered old (call_entry caller raw) → caller < 2 ^ 62
+    → Says (length old.history + 1) caller (said_to old.setup old.history (call_entry caller raw)) (answer.Wait ticket)
+    → IsReplay new.setup new.history replies (tickets ++ ticket ∷ [])
+call_waits old new caller raw replies tickets ticket runs state is small says =
+    run_begun old new caller (call_entry caller raw) replies tickets ticket runs state is small
+    (says_wait (length old.history + 1) caller (said_to old.setup old.history (call_entry caller raw)) ticket says) (runs.begun caller raw)
 
-pub ticked : (old new : BookState) (caller moment : ℕ) (replies : List Told) (tickets : List Flight)
-    → IsReplay old.setup old.history replies tickets → new ≡ entered old (tick_entry caller moment)
-    → said_to old.setup old.history (tick_entry caller moment) ≡ Silence
-    → runs_of old.setup (old.history ++ tick_entry caller moment ∷ []) ≡ runs_of old.setup old.history
-    → IsReplay new.setup new.history replies tickets
-ticked old new caller moment replies tickets state is said runs =
+pub resume_waits : (old new : BookState) (caller : ℕ) (replies : List Told) (tickets : List Flight) (ticket : Flight)
+    → RunsFollow old.setup old.history → IsReplay old.setup old.history replies tickets → new ≡ entered old (resume_entry caller) → caller < 2 ^ 62
+    → Says (length old.history + 1) caller (said_to old.setup old.history (resume_entry caller)) (answer.Wait ticket)
+    → IsReplay new.setup new.history replies (tickets ++ ticket ∷ [])
+resume_waits old new caller replies tickets ticket runs state is small says =
+    run_begun old new caller (resume_entry caller) replies tickets ticket runs state is small
+    (says_wait (length old.history + 1) caller (said_to old.setup old.history (resume_entry caller)) ticket says) (runs.taken caller)
+
+-- where nothing is said and the live runs stay, so does all that is kept
+silent : (old new : BookState) (entry : Entry) (replies : List Told) (tickets : List Flight)
+    → IsReplay old.setup old.history replies tickets → new ≡ entered old entry → said_to old.setup old.history entry ≡ Silence
+    → runs_of old.setup (old.history ++ entry ∷ []) ≡ runs_of old.setup old.history → IsReplay new.setup new.history replies tickets
+silent old new entry replies tickets state is said runs =
     subst (λ (book : BookState). IsReplay book.setup book.history replies tickets) (sym is) (record {
-      told = told_nothing old.setup old.history (tick_entry caller moment) replies Silence state.told said refl;
+      told = told_nothing old.setup old.history entry replies Silence state.told said refl;
       kept = record { held = state.kept.held ∙ sym runs; apart = state.kept.apart; callers = state.kept.callers };
     })
+
+pub resume_passes : (old new : BookState) (caller : ℕ) (replies : List Told) (tickets : List Flight)
+    → RunsFollow old.setup old.history → IsReplay old.setup old.history replies tickets → new ≡ entered old (resume_entry caller)
+    → Says (length old.history + 1) caller (said_to old.setup old.history (resume_entry caller)) answer.Done
+    → IsReplay new.setup new.history replies tickets
+resume_passes old new caller replies tickets runs state is says =
+    let said = says_done (length old.history + 1) caller (said_to old.setup old.history (resume_entry caller)) says in
+    silent old new (resume_entry caller) replies tickets state is said (runs.passed caller said)
+
+pub ticked : (old new : BookState) (caller moment : ℕ) (replies : List Told) (tickets : List Flight)
+    → AreFound old.setup old.history → IsReplay old.setup old.history replies tickets → new ≡ entered old (tick_entry caller moment)
+    → Says (length old.history + 1) caller (said_to old.setup old.history (tick_entry caller moment)) answer.Done
+    → IsReplay new.setup new.history replies tickets
+ticked old new caller moment replies tickets finds state is says =
+    silent old new (tick_entry caller moment) replies tickets state is
+    (says_done (length old.history + 1) caller (said_to old.setup old.history (tick_entry caller moment)) says) (finds.ticked caller moment)
 
 -- ---- the end of a run
 
@@ -295,57 +340,109 @@ kept_ended setup history caller run entry tickets ticket kept found runs = recor
   callers = callers_left (is_run caller run) tickets kept.callers;
 }
 
+-- a ticket that is taken out: it is that of the caller's live run with the number, and the others are left
+pub record IsTaken (setup : Setup) (history : List Entry) (tickets left : List Flight) (caller run : ℕ) (ticket : Flight) : Type 0 where
+  pub found : find (is_run caller run) tickets ≡ Some ticket
+  pub rest : left ≡ without_first (is_run caller run) tickets
+  pub number : ticket.run ≡ run
+  pub own : ticket.caller ≡ caller
+  pub holds : Holds setup history ticket.caller ticket
+  pub small : ticket.caller < 2 ^ 62
+
+pub is_taken : (setup : Setup) (history : List Entry) (tickets left : List Flight) (caller run : ℕ) (ticket : Flight) → AreFound setup history → AreKept setup history tickets
+    → find (is_run caller run) tickets ≡ Some ticket → left ≡ without_first (is_run caller run) tickets → IsTaken setup history tickets left caller run ticket
+is_taken setup history tickets left caller run ticket finds kept found rest =
+    let it = finds.found caller run ticket (ap (find (is_run caller run)) (sym kept.held) ∙ found) in
+    record {
+      found = found;
+      rest = rest;
+      number = it.0;
+      own = it.1;
+      holds = subst (λ n. Holds setup history n ticket) (sym it.1) it.2;
+      small = caller_found (is_run caller run) tickets ticket kept.callers found;
+    }
+
+-- where none is found, the caller has no live run of the number
+pub none_taken : (setup : Setup) (history : List Entry) (tickets : List Flight) (caller run : ℕ) → AreFound setup history → AreKept setup history tickets
+    → find (is_run caller run) tickets ≡ None → own_of setup history caller run ≡ None
+none_taken setup history tickets caller run finds kept none = finds.others caller run (ap (find (is_run caller run)) (sym kept.held) ∙ none)
+
+-- and nothing is left out
+pub none_left : (caller run : ℕ) (tickets : List Flight) → find (is_run caller run) tickets ≡ None → without_first (is_run caller run) tickets ≡ tickets
+none_left caller run [] none = refl
+none_left caller run (ticket ∷ tickets) none = at (is_run caller run ticket) refl none (none_left caller run tickets)
+  where
+    at : (t : Bool) → is_run caller run ticket ≡ t → find (is_run caller run) (ticket ∷ tickets) ≡ None
+        → (find (is_run caller run) tickets ≡ None → without_first (is_run caller run) tickets ≡ tickets) → without_first (is_run caller run) (ticket ∷ tickets) ≡ ticket ∷ tickets
+    at true e none more = let never : Some ticket ≡ None = rw e at none in absurd (cc)
+    at false e none more = rw e (ap (λ ts. ticket ∷ ts) (more (rw e at none)))
+
 ended : (old new : BookState) (caller run : ℕ) (entry : Entry) (replies : List Told) (tickets left : List Flight) (ticket : Flight) (reply : Reply) (told : Told)
-    → IsReplay old.setup old.history replies tickets → new ≡ entered old entry → find (is_run caller run) tickets ≡ Some ticket
-    → left ≡ without_first (is_run caller run) tickets → said_to old.setup old.history entry ≡ Replies reply
-    → told ∷ [] ≡ told_at (length old.history + 1) (Replies reply)
+    → IsReplay old.setup old.history replies tickets → IsTaken old.setup old.history tickets left caller run ticket → new ≡ entered old entry
+    → said_to old.setup old.history entry ≡ Replies reply → told ∷ [] ≡ told_at (length old.history + 1) (Replies reply)
     → runs_of old.setup (old.history ++ entry ∷ []) ≡ all_but_run ticket (runs_of old.setup old.history)
     → IsReplay new.setup new.history (replies ++ told ∷ []) left
-ended old new caller run entry replies tickets left ticket reply told state is found rest said tells runs =
+ended old new caller run entry replies tickets left ticket reply told state taken is said tells runs =
     subst (λ (book : BookState). IsReplay book.setup book.history (replies ++ told ∷ []) left) (sym is)
-    (subst (λ ts. IsReplay old.setup (old.history ++ entry ∷ []) (replies ++ told ∷ []) ts) (sym rest) (record {
+    (subst (λ ts. IsReplay old.setup (old.history ++ entry ∷ []) (replies ++ told ∷ []) ts) (sym taken.rest) (record {
       told = told_reply old.setup old.history entry replies reply told state.told said tells;
-      kept = kept_ended old.setup old.history caller run entry tickets ticket state.kept found runs;
+      kept = kept_ended old.setup old.history caller run entry tickets ticket state.kept taken.found runs;
     }))
 
--- the first of the tickets is found, and the others are left
+pub run_finished : (old new : BookState) (caller run : ℕ) (ruling : Ruling) (replies : List Told) (tickets left : List Flight) (ticket : Flight) (reply : Reply) (told : Told)
+    → RunsFollow old.setup old.history → IsReplay old.setup old.history replies tickets → IsTaken old.setup old.history tickets left caller run ticket
+    → new ≡ entered old (finish_entry ticket.caller ticket ruling) → said_to old.setup old.history (finish_entry ticket.caller ticket ruling) ≡ Replies reply
+    → told ∷ [] ≡ told_at (length old.history + 1) (Replies reply) → IsReplay new.setup new.history (replies ++ told ∷ []) left
+run_finished old new caller run ruling replies tickets left ticket reply told runs state taken is said tells =
+    ended old new caller run (finish_entry ticket.caller ticket ruling) replies tickets left ticket reply told state taken is said tells (runs.settled ticket.caller ticket ruling taken.holds)
+
+pub run_parked : (old new : BookState) (caller run : ℕ) (why : Why) (replies : List Told) (tickets left : List Flight) (ticket : Flight) (reply : Reply) (told : Told)
+    → RunsFollow old.setup old.history → IsReplay old.setup old.history replies tickets → IsTaken old.setup old.history tickets left caller run ticket
+    → new ≡ entered old (park_entry ticket.caller ticket why) → said_to old.setup old.history (park_entry ticket.caller ticket why) ≡ Replies reply
+    → told ∷ [] ≡ told_at (length old.history + 1) (Replies reply) → IsReplay new.setup new.history (replies ++ told ∷ []) left
+run_parked old new caller run why replies tickets left ticket reply told runs state taken is said tells =
+    ended old new caller run (park_entry ticket.caller ticket why) replies tickets left ticket reply told state taken is said tells (runs.parked ticket.caller ticket why taken.holds)
+
+-- the entry of a ticket is that of its caller and number
+pub finish_entered : (old new : BookState) (caller run : ℕ) (ruling : Ruling) (ticket : Flight) → ticket.caller ≡ caller → ticket.run ≡ run
+    → new ≡ entered old (finish_entry ticket.caller ticket ruling) → new ≡ entered old (record { caller = caller; deed = deed.Finish run ruling })
+finish_entered old new caller run ruling ticket own number is =
+    is ∙ ap (entered old) (λ i. record { caller = own i; deed = deed.Finish (number i) ruling })
+
+pub park_entered : (old new : BookState) (caller run : ℕ) (why : Why) (ticket : Flight) → ticket.caller ≡ caller → ticket.run ≡ run
+    → new ≡ entered old (park_entry ticket.caller ticket why) → new ≡ entered old (record { caller = caller; deed = deed.Park run why })
+park_entered old new caller run why ticket own number is =
+    is ∙ ap (entered old) (λ i. record { caller = own i; deed = deed.Park (number i) why })
+
+-- ---- the first of the tickets
+
+-- the first ticket is found, and the others are left
 itself_passes : (ticket : Flight) → is_run ticket.caller ticket.run ticket ≡ true
 itself_passes ticket = grind (arith, nat_tests)
 
-pub first_found : (ticket : Flight) (tickets : List Flight) → find (is_run ticket.caller ticket.run) (ticket ∷ tickets) ≡ Some ticket
-first_found ticket tickets = rw (itself_passes ticket) refl
+first_taken : (setup : Setup) (history : List Entry) (ticket : Flight) (tickets : List Flight) → AreFound setup history → AreKept setup history (ticket ∷ tickets)
+    → IsTaken setup history (ticket ∷ tickets) tickets ticket.caller ticket.run ticket
+first_taken setup history ticket tickets finds kept =
+    is_taken setup history (ticket ∷ tickets) tickets ticket.caller ticket.run ticket finds kept (rw (itself_passes ticket) refl) (rw (itself_passes ticket) refl)
 
-pub first_left : (ticket : Flight) (tickets : List Flight) → without_first (is_run ticket.caller ticket.run) (ticket ∷ tickets) ≡ tickets
-first_left ticket tickets = rw (itself_passes ticket) refl
+-- what is taken from the front is the first, and the others are left
+parts_of : (tickets left : List Flight) (ticket : Flight) → 0 < length tickets → ticket ≡ get_or tickets 0 ticket → left ≡ take 0 tickets ++ drop 1 tickets → tickets ≡ ticket ∷ left
+parts_of [] left ticket within value rest = absurd (omega (arith, within))
+parts_of (first ∷ tickets) left ticket within value rest = ap (λ f. f ∷ tickets) (sym value) ∙ ap (λ ts. ticket ∷ ts) (sym rest)
 
--- the run of the first ticket is given up
-pub first_given_up : (old new : BookState) (why : Why) (ticket : Flight) (tickets : List Flight) → RunsFollow old.setup old.history → AreFound old.setup old.history
-    → AreKept old.setup old.history (ticket ∷ tickets) → new ≡ entered old (park_entry ticket.caller ticket why) → AreKept new.setup new.history tickets
-first_given_up old new why ticket tickets runs finds kept is =
-    let found = first_found ticket tickets in
-    let holds = (finds.found ticket.caller ticket.run ticket (ap (find (is_run ticket.caller ticket.run)) (sym kept.held) ∙ found)).2 in
-    subst (λ (book : BookState). AreKept book.setup book.history tickets) (sym is)
-    (subst (AreKept old.setup (old.history ++ park_entry ticket.caller ticket why ∷ [])) (first_left ticket tickets)
-    (kept_ended old.setup old.history ticket.caller ticket.run (park_entry ticket.caller ticket why) (ticket ∷ tickets) ticket kept found (runs.parked ticket.caller ticket why holds)))
+-- so the first of the kept tickets may be spent
+pub first_of : (setup : Setup) (history : List Entry) (tickets left : List Flight) (ticket : Flight) → AreFound setup history → AreKept setup history tickets
+    → 0 < length tickets → ticket ≡ get_or tickets 0 ticket → left ≡ take 0 tickets ++ drop 1 tickets → IsTaken setup history tickets left ticket.caller ticket.run ticket
+first_of setup history tickets left ticket finds kept within value rest =
+    let parts = parts_of tickets left ticket within value rest in
+    subst (λ ts. IsTaken setup history ts left ticket.caller ticket.run ticket) (sym parts)
+    (first_taken setup history ticket left finds (subst (AreKept setup history) parts kept))
 
--- what the first ticket may do
-pub first_holds : (setup : Setup) (history : List Entry) (ticket : Flight) (tickets : List Flight) → AreFound setup history
-    → AreKept setup history (ticket ∷ tickets) → Holds setup history ticket.caller ticket
-first_holds setup history ticket tickets finds kept =
-    (finds.found ticket.caller ticket.run ticket (ap (find (is_run ticket.caller ticket.run)) (sym kept.held) ∙ first_found ticket tickets)).2
-
-pub run_finished : (old new : BookState) (caller run : ℕ) (ruling : Ruling) (replies : List Told) (tickets left : List Flight) (ticket : Flight) (reply : Reply) (told : Told)
-    → RunsFollow old.setup old.history → Holds old.setup old.history caller ticket → IsReplay old.setup old.history replies tickets
-    → new ≡ entered old (finish_entry caller ticket ruling) → find (is_run caller run) tickets ≡ Some ticket
-    → left ≡ without_first (is_run caller run) tickets → said_to old.setup old.history (finish_entry caller ticket ruling) ≡ Replies reply
-    → told ∷ [] ≡ told_at (length old.history + 1) (Replies reply) → IsReplay new.setup new.history (replies ++ told ∷ []) left
-run_finished old new caller run ruling replies tickets left ticket reply told runs holds state is found rest said tells =
-    ended old new caller run (finish_entry caller ticket ruling) replies tickets left ticket reply told state is found rest said tells (runs.settled caller ticket ruling holds)
-
-pub run_parked : (old new : BookState) (caller run : ℕ) (why : Why) (replies : List Told) (tickets left : List Flight) (ticket : Flight) (reply : Reply) (told : Told)
-    → RunsFollow old.setup old.history → Holds old.setup old.history caller ticket → IsReplay old.setup old.history replies tickets
-    → new ≡ entered old (park_entry caller ticket why) → find (is_run caller run) tickets ≡ Some ticket
-    → left ≡ without_first (is_run caller run) tickets → said_to old.setup old.history (park_entry caller ticket why) ≡ Replies reply
-    → told ∷ [] ≡ told_at (length old.history + 1) (Replies reply) → IsReplay new.setup new.history (replies ++ told ∷ []) left
-run_parked old new caller run why replies tickets left ticket reply told runs holds state is found rest said tells =
-    ended old new caller run (park_entry caller ticket why) replies tickets left ticket reply told state is found rest said tells (runs.parked caller ticket why holds)
+-- the run of a ticket that was taken out is given up
+pub left_kept : (old new : BookState) (why : Why) (caller run : ℕ) (tickets left : List Flight) (ticket : Flight) → RunsFollow old.setup old.history
+    → AreKept old.setup old.history tickets → IsTaken old.setup old.history tickets left caller run ticket → new ≡ entered old (park_entry ticket.caller ticket why)
+    → AreKept new.setup new.history left
+left_kept old new why caller run tickets left ticket runs kept taken is =
+    subst (λ (book : BookState). AreKept book.setup book.history left) (sym is)
+    (subst (AreKept old.setup (old.history ++ park_entry ticket.caller ticket why ∷ [])) (sym taken.rest)
+    (kept_ended old.setup old.history caller run (park_entry ticket.caller ticket why) tickets ticket kept taken.found (runs.parked ticket.caller ticket why taken.holds)))

@@ -1,7 +1,8 @@
 //! A history that is entered anew, entry by entry.
-ghost use Rattle.std.specs.Prelude.{◌≡◌, ◌+◌, ◌<◌, ◌^◌, ◌≤◌, [], length, IfOk, IfErr, OnOk};
+ghost use Rattle.std.specs.Prelude.{◌≡◌, ◌+◌, ◌<◌, ◌^◌, ◌≤◌, [], length, IfOk, IfErr, OnOk, OnErr};
+ghost use Rattle.ph_base.specs.declared.acquirer.Why.TheVariants as why_given;
 ghost use Rattle.ph_book.specs.declared.acts.Deed.TheVariants as deed;
-ghost use Rattle.ph_book.specs.Entries.{call_entry, park_entry, resume_entry, tick_entry};
+ghost use Rattle.ph_book.specs.Entries.{call_entry, finish_entry, park_entry, resume_entry, tick_entry};
 ghost use Rattle.ph_book.specs.History.{said_to};
 ghost use Rattle.ph_book.specs.Laws.{runs_of};
 ghost use Rattle.ph_book.specs.Legal.{IsLegal};
@@ -13,13 +14,13 @@ ghost use Rattle.ph_replay.specs.Unentered.{IsUnentered};
 ghost use Rattle.ph_replay.specs.Told.{told_of};
 
 use crate::copies::copy_raw;
-use crate::laws::runs_are_found;
+use crate::laws::live_runs;
 use crate::tickets::take_ticket;
 use crate::told::{Told, tell};
 use crate::unentered::{Unentered, reason_of};
 use ph_attempts::Ticket;
 use ph_base::{NoMemory, Ruling, Why};
-use ph_book::{Act, Answer, Book, Deed, Entry, Setup, history_is_legal, runs_follow};
+use ph_book::{Act, Answer, Book, Deed, Entry, Setup, history_is_legal};
 use ph_http::{Raw, Reply};
 use ph_items::CLOCK_LIMIT;
 use std::alloc::Global;
@@ -118,7 +119,7 @@ impl Replayed {
         self.replies.reserve(1)?;
         self.tickets.reserve(1)?;
         let place = self.next_place();
-        runs_follow(self.book.setup(), self.book.history());
+        live_runs(&self.book);
         match self.book.apply(caller, Act::Call(raw)) {
             Ok(Answer::Reply(reply)) => {
                 self.replies.push_reserved(tell(place, &reply));
@@ -144,24 +145,16 @@ impl Replayed {
     {
         self.replies.reserve(1)?;
         let place = self.next_place();
-        runs_follow(self.book.setup(), self.book.history());
-        runs_are_found(&self.book);
+        live_runs(&self.book);
         let Some(ticket) = take_ticket(&mut self.tickets, caller, run) else {
             return Err(Unentered::Illegal);
         };
-        match self.book.apply(caller, Act::Finish(ticket, ruling)) {
-            Ok(answer) => {
-                let Answer::Reply(reply) = answer else {
-                    unreachable!()
-                };
+        match ruled(&mut self.book, ticket, ruling) {
+            Ok(reply) => {
                 self.replies.push_reserved(tell(place, &reply));
                 Ok(())
             }
-            Err((act, _)) => {
-                let Act::Finish(ticket, _) = act else {
-                    unreachable!()
-                };
-                let reply = given_up(&mut self.book, ticket, Why::NoMemory);
+            Err(reply) => {
                 self.replies.push_reserved(tell(place, &reply));
                 Err(Unentered::NoMemory)
             }
@@ -176,8 +169,7 @@ impl Replayed {
     {
         self.replies.reserve(1)?;
         let place = self.next_place();
-        runs_follow(self.book.setup(), self.book.history());
-        runs_are_found(&self.book);
+        live_runs(&self.book);
         let Some(ticket) = take_ticket(&mut self.tickets, caller, run) else {
             return Err(Unentered::Illegal);
         };
@@ -193,7 +185,7 @@ impl Replayed {
         ensures unentered { IfErr result (λ why. IsUnentered self.old.book.setup self.old.book.history (resume_entry caller) why) }
     {
         self.tickets.reserve(1)?;
-        runs_follow(self.book.setup(), self.book.history());
+        live_runs(&self.book);
         match self.book.apply(caller, Act::Resume) {
             Ok(Answer::Wait(ticket)) => {
                 self.tickets.push_reserved(ticket);
@@ -217,7 +209,7 @@ impl Replayed {
         if moment > CLOCK_LIMIT {
             return Err(Unentered::Illegal);
         }
-        runs_are_found(&self.book);
+        live_runs(&self.book);
         match self.book.apply(caller, Act::Tick(moment)) {
             Ok(answer) => {
                 let Answer::Done = answer else { unreachable!() };
@@ -246,12 +238,38 @@ impl Replayed {
             mut tickets,
         } = self;
         'runs: while !tickets.is_empty() {
-            runs_follow(book.setup(), book.history());
-            runs_are_found(&book);
+            live_runs(&book);
             let ticket = tickets.remove(0);
             let _reply = given_up(&mut book, ticket, Why::Pending);
         }
         tickets.destroy_empty();
+    }
+}
+
+// Enters a ruling on the order of a ticket's run. Where there is no memory for it, the run is given up, and the reply to
+// that comes back as the error.
+fn ruled(book: &mut Book, ticket: Ticket, ruling: Ruling) -> Result<Reply, Reply>
+    requires caller { ticket.caller < 2 ^ 62 }
+    requires own { Holds book.old.setup book.old.history ticket.caller ticket }
+    ensures entered { OnOk result (book.new ≡ entered book.old (finish_entry ticket.caller ticket ruling)) }
+    ensures said { IfOk result (λ reply. said_to book.old.setup book.old.history (finish_entry ticket.caller ticket ruling) ≡ Replies reply) }
+    ensures given_up { OnErr result (book.new ≡ entered book.old (park_entry ticket.caller ticket why_given.NoMemory)) }
+    ensures given_up_said { IfErr result (λ reply. said_to book.old.setup book.old.history (park_entry ticket.caller ticket why_given.NoMemory) ≡ Replies reply) }
+{
+    let caller = ticket.caller();
+    match book.apply(caller, Act::Finish(ticket, ruling)) {
+        Ok(answer) => {
+            let Answer::Reply(reply) = answer else {
+                unreachable!()
+            };
+            Ok(reply)
+        }
+        Err((act, _)) => {
+            let Act::Finish(ticket, _) = act else {
+                unreachable!()
+            };
+            Err(given_up(book, ticket, Why::NoMemory))
+        }
     }
 }
 
