@@ -83,9 +83,11 @@ impl Replayed {
         self.tickets.as_slice()
     }
 
-    // Its history is legal.
-    pub(crate) fn legal(&self)
-        ensures { IsLegal self.now.book.setup self.now.book.history }
+    // Its history is legal, all of its replies are told, and the tickets are those of its live runs.
+    pub(crate) fn lawful(&self)
+        ensures legal { IsLegal self.now.book.setup self.now.book.history }
+        ensures replies { self.now.replies ≡ told_of self.now.book.setup self.now.book.history }
+        ensures tickets { self.now.tickets ≡ runs_of self.now.book.setup self.now.book.history }
     {
         history_is_legal(&self.book);
     }

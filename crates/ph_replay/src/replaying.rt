@@ -34,7 +34,7 @@ pub fn replay(alloc: Global, setup: Setup, entries: &[Entry]) -> Result<Replayed
         Err(NoMemory) => return Err(HistoryFault::NoMemory),
     };
     for (i, entry) in entries.iter().enumerate() {
-        replayed.legal();
+        replayed.lawful();
         match replayed.enter(alloc, entry) {
             Ok(()) => {}
             Err(why) => {
@@ -46,6 +46,6 @@ pub fn replay(alloc: Global, setup: Setup, entries: &[Entry]) -> Result<Replayed
             }
         }
     }
-    replayed.legal();
+    replayed.lawful();
     Ok(replayed)
 }
