@@ -120,7 +120,7 @@ impl Replayed {
     {
         self.replies.reserve(1)?;
         self.tickets.reserve(1)?;
-        let place = self.next_place();
+        let place = next_place(&self.book);
         live_runs(&self.book);
         match self.book.apply(caller, Act::Call(raw)) {
             Ok(Answer::Reply(reply)) => {
@@ -146,7 +146,7 @@ impl Replayed {
         ensures unentered { IfErr result (λ why. IsUnentered self.old.book.setup self.old.book.history (record { caller = caller; deed = deed.Finish run ruling }) why) }
     {
         self.replies.reserve(1)?;
-        let place = self.next_place();
+        let place = next_place(&self.book);
         live_runs(&self.book);
         let Some(ticket) = take_ticket(&mut self.tickets, caller, run) else {
             return Err(Unentered::Illegal);
@@ -170,7 +170,7 @@ impl Replayed {
         ensures unentered { IfErr result (λ why_not. IsUnentered self.old.book.setup self.old.book.history (record { caller = caller; deed = deed.Park run why }) why_not) }
     {
         self.replies.reserve(1)?;
-        let place = self.next_place();
+        let place = next_place(&self.book);
         live_runs(&self.book);
         let Some(ticket) = take_ticket(&mut self.tickets, caller, run) else {
             return Err(Unentered::Illegal);
@@ -224,13 +224,6 @@ impl Replayed {
         }
     }
 
-    // The place of the next entry.
-    fn next_place(&self) -> u64
-        ensures { result ≡ length self.now.book.history + 1 }
-    {
-        self.book.history().len() as u64 + 1
-    }
-
     /// Gives up the runs that are live, each for the reason that the acquirer didn't answer in time, and lets the book
     /// go.
     pub fn end(self) {
@@ -246,6 +239,13 @@ impl Replayed {
         }
         tickets.destroy_empty();
     }
+}
+
+// The place of the next entry.
+fn next_place(book: &Book) -> u64
+    ensures { result ≡ length book.now.history + 1 }
+{
+    book.history().len() as u64 + 1
 }
 
 // Enters a ruling on the order of a ticket's run. Where there is no memory for it, the run is given up, and the reply to
