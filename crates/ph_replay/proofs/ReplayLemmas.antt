@@ -239,6 +239,12 @@ pub runs_read : (setup read : Setup) (history entries : List Entry) → read ≡
 runs_read setup read history entries same same_history runs =
     subst (λ (p : Setup × List Entry). RunsFollow p.0 p.1) (λ i. (same i, same_history i)) runs
 
+-- what is kept of lists is kept of those that they are
+pub kept_in : (setup : Setup) (history : List Entry) (replies replies_before : List Told) (tickets tickets_before : List Flight) → replies ≡ replies_before → tickets ≡ tickets_before
+    → IsReplay setup history replies_before tickets_before → IsReplay setup history replies tickets
+kept_in setup history replies replies_before tickets tickets_before same same_tickets state =
+    subst (λ (p : List Told × List Flight). IsReplay setup history p.0 p.1) (λ i. (sym same i, sym same_tickets i)) state
+
 -- ---- a book without entries
 
 pub opened : (book : BookState) (setup : Setup) → book ≡ record { setup = setup; history = [] } → IsReplay book.setup book.history [] []
