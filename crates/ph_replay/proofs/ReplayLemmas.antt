@@ -276,7 +276,7 @@ run_begun : (old new : BookState) (caller : ℕ) (entry : Entry) (replies : List
     → RunsFollow old.setup old.history → IsReplay old.setup old.history replies tickets → new ≡ entered old entry → caller < 2 ^ 62
     → IsWait (length old.history + 1) caller (said_to old.setup old.history entry) ticket
     → ((order : Order) → said_to old.setup old.history entry ≡ Waits order
-        → runs_of old.setup (old.history ++ entry ∷ []) ≡ runs_of old.setup old.history ++ record { caller = caller; run = length old.history + 1; order = order } ∷ [])
+    → runs_of old.setup (old.history ++ entry ∷ []) ≡ runs_of old.setup old.history ++ record { caller = caller; run = length old.history + 1; order = order } ∷ [])
     → IsReplay new.setup new.history replies (tickets ++ ticket ∷ [])
 run_begun old new caller entry replies tickets ticket runs state is small wait begun =
     let flight : Flight = record { caller = caller; run = length old.history + 1; order = wait.order } in

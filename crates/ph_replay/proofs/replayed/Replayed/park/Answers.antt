@@ -15,4 +15,4 @@ invariant_of-self c =
     let told = c.tell.ensures ∙ ap (λ n. told_at n (Replies c.given_up-reply.result)) c.next_place-place.ensures in
     kept_in _ _ _ _ _ _ (c.push_reserved.ensures.items ∙ ap (λ replies. replies ++ c.tell.result ∷ []) c.reserve.ensures.items) refl
     (run_parked c.self.inside.book c.given_up-reply.new.book c.args.caller c.args.run c.args.why c.self.inside.replies.items c.self.inside.tickets.items _ c.in-Some.ticket c.given_up-reply.result c.tell.result
-        c.live_runs.ensures.follow c.self.invariant taken c.given_up-reply.ensures.entered c.given_up-reply.ensures.said told)
+    c.live_runs.ensures.follow c.self.invariant taken c.given_up-reply.ensures.entered c.given_up-reply.ensures.said told)
