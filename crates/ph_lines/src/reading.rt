@@ -6,8 +6,8 @@ ghost use Rattle.std.specs.Option.{option_copied};
 ghost use Rattle.ph_lines.specs.Reading.{Gives, bytes_at, field_at, fields_left, flag_at, flag_of, hex_of, is_space, number_at, number_of, octets_at, octets_of};
 
 use hex::FromHexError;
+use itoa::Buffer;
 use ph_base::{Bytes, NoMemory, read_number};
-use ph_sign::DecimalText;
 use std::alloc::{AllocError, Global};
 
 /// Why a line wasn't read.
@@ -77,7 +77,7 @@ fn number_in(word: &[u8]) -> Result<u64, Unread>
     let Some(number) = read_number(word) else {
         return Err(Unread::Form);
     };
-    if DecimalText::new(number).as_slice() == word {
+    if Buffer::new().format(number).as_bytes() == word {
         Ok(number)
     } else {
         Err(Unread::Form)

@@ -5,8 +5,8 @@ ghost use Rattle.ph_io.specs.Writes.{Takes, TakesFront};
 ghost use Rattle.ph_lines.specs.Fields.{field_text, line_text, spaced};
 
 use crate::fields::Field;
+use itoa::Buffer;
 use ph_io::{Sink, WriteFailed, write_all};
-use ph_sign::DecimalText;
 
 // How many bytes are spelled at a time.
 const PIECE: usize = 256;
@@ -53,7 +53,7 @@ fn write_field<K: Sink>(sink: &mut K, field: &Field<'_>) -> Result<(), WriteFail
 {
     match field {
         Field::Word(word) => write_all(sink, word),
-        Field::Number(number) => write_all(sink, DecimalText::new(*number).as_slice()),
+        Field::Number(number) => write_all(sink, Buffer::new().format(*number).as_bytes()),
         Field::Octets(None) => write_all(sink, b"-"),
         Field::Octets(Some(bytes)) => write_octets(sink, bytes),
         Field::Flag(true) => write_all(sink, b"1"),

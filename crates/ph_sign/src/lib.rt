@@ -8,7 +8,6 @@ mod keyed_hash;
 mod laws;
 mod verdicts;
 
-pub use decimal_text::DecimalText;
 pub use headers::header;
 pub use keyed_hash::hmac;
 pub use laws::header_is_good;
