@@ -1,11 +1,9 @@
 -- Where a history stops being legal.
-use Rattle.std.proofs.Common.{◌≡◌, ℕ, ◌+◌, ◌<◌, ◌≤◌, ◌⊎◌, inl, inr, true, false, List, [], ◌∷◌, ◌++◌, length, get_or, take, drop, Option, Some, None, refl, sym, ap, ◌∙◌, subst, append_assoc, arith, IsTrue}
+use Rattle.std.proofs.Common.{◌≡◌, ℕ, ◌+◌, ◌<◌, inl, inr, true, false, List, [], ◌∷◌, ◌++◌, length, get_or, take, drop, Some, None, refl, sym, ap, ◌∙◌, subst, append_assoc, arith, IsTrue}
 use Rattle.std.specs.List.{fold}
 use Rattle.std.proofs.lemmas.List.{at_drop_more, length-take-le, take-append-drop, take_more}
 use Rattle.ph_base.specs.declared.acquirer.Ruling.{Ruling}
 use Rattle.ph_base.specs.declared.acquirer.Why.{Why}
-use Rattle.ph_items.specs.Clocks.{clock_limit}
-use Rattle.ph_attempts.specs.declared.flights.Flight.{Flight}
 use Rattle.ph_lock.specs.declared.object.Refused.{Refused}
 use Rattle.ph_lock.specs.declared.object.Refused.TheVariants as refusal
 use Rattle.ph_book.specs.declared.setup.Setup.{Setup}
@@ -17,7 +15,7 @@ use Rattle.ph_book.specs.Legal.{AreAllowed, IsAllowed, IsLegal, is_full}
 use Rattle.ph_book.specs.OwnRuns.{own_of}
 use Rattle.ph_book.specs.State.{BookState, entered}
 use Rattle.ph_replay.specs.declared.unentered.Unentered.{Unentered}
-use Rattle.ph_replay.specs.Legal.{EndsLegalAt, IsIllegalAt}
+use Rattle.ph_replay.specs.Legal.{IsIllegalAt}
 use Rattle.ph_replay.specs.Unentered.{IsUnentered, reason}
 
 -- the last entry of a legal history may come after those before it

@@ -1,5 +1,5 @@
 -- Tickets in hand.
-use Rattle.std.specs.Prelude.{◌≡◌, ◌≢◌, ℕ, ◌^◌, ◌<◌, Bool, List, [], ◌∷◌, ◌++◌, if◌then◌else◌, Option, Some, None}
+use Rattle.std.specs.Prelude.{◌≡◌, ◌≢◌, ℕ, ◌^◌, ◌<◌, Bool, List, [], ◌∷◌, ◌++◌, if◌then◌else◌, Some, None}
 use Rattle.std.specs.List.{find}
 use Rattle.ph_attempts.specs.declared.flights.Flight.{Flight}
 use Rattle.ph_doings.specs.Kept.{is_run}
