@@ -1,0 +1,6 @@
+pub mod EntryLemmas
+pub mod WrittenLemmas
+pub mod GrammarLemmas
+pub mod TextLemmas
+pub mod ReadLemmas
+pub mod OnlyLemmas

@@ -1,0 +1,5 @@
+pub mod Text
+pub mod Reading
+pub mod Grammar
+pub mod Written
+pub mod Worked

@@ -1,0 +1,5 @@
+pub mod SplitLemmas
+pub mod FieldLemmas
+pub mod LineLemmas
+pub mod TextLemmas
+pub mod WriteLemmas
