@@ -11,7 +11,8 @@ pub fn asks_are_orders()
     ensures { Everywhere AsksAreOrders }
 {}
 
-/// A move asks nothing, or once and of an attempt that is live: none is asked of after it was settled.
+/// A move asks nothing, or once and of an attempt that is live behind the history before it, so of none that is settled
+/// then.
 pub fn asks_are_of_live_attempts()
     ensures { Everywhere AsksOfLiveAttempts }
 {}
