@@ -220,8 +220,7 @@ impl Inner {
             Some(_) => Ok(()),
             None => {
                 self.decisions.reserve(1)?;
-                self.decisions
-                    .push_reserved(Decision { reference, ruling });
+                self.decisions.push_reserved(Decision { reference, ruling });
                 Ok(())
             }
         }
