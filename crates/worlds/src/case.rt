@@ -133,7 +133,10 @@ fn add_case(alloc: Global, output: &mut Vec<u8>, text: &str, above: usize) -> Re
     add_text(output, "== ").map_err(no_room)?;
     add_text(output, title).map_err(no_room)?;
     add_text(output, "\n").map_err(no_room)?;
-    let setup = setup_of(alloc, entries).map_err(no_memory)?;
+    let setup = match setup_of(alloc, entries) {
+        Ok(setup) => setup,
+        Err(fault) => return Err(no_memory(fault)),
+    };
     let mut world = World::new(alloc, setup).map_err(no_memory)?;
     let added = add_moves(alloc, output, &mut world, body, above);
     let book = world.end();

@@ -1,4 +1,6 @@
 //! Requests to a world, and the setup of its book.
+ghost use Rattle.std.specs.Prelude.{◌≤◌, IfOk};
+ghost use Rattle.ph_items.specs.Clocks.{clock_limit};
 
 use ph_base::{Bytes, NoMemory};
 use ph_book::Setup;
@@ -8,7 +10,9 @@ use std::alloc::Global;
 const KEY: &[u8] = b"sk_test_payhost";
 
 /// A setup that opens in November 2023, with room for so many entries.
-pub fn setup_of(alloc: Global, entries: u32) -> Result<Setup, NoMemory> {
+pub fn setup_of(alloc: Global, entries: u32) -> Result<Setup, NoMemory>
+    ensures { IfOk result (λ setup. setup.opened ≤ clock_limit) }
+{
     Ok(Setup {
         key: Bytes::from_slice(alloc, KEY)?,
         opened: 1_700_000_000,
