@@ -9,6 +9,10 @@ use Rattle.ph_items.specs.declared.charges.ChargeSort.{ChargeSort}
 use Rattle.ph_items.specs.declared.charges.ChargeSort.TheVariants as charge_sort
 use Rattle.ph_items.specs.declared.refunds.Refund.{Refund}
 use Rattle.ph_items.specs.declared.disputes.Dispute.{Dispute}
+use Rattle.ph_items.specs.declared.transfers.Transfer.{Transfer}
+use Rattle.ph_items.specs.declared.reversals.Reversal.{Reversal}
+use Rattle.ph_items.specs.declared.fees.Fee.{Fee}
+use Rattle.ph_items.specs.declared.fee_refunds.FeeRefund.{FeeRefund}
 use Rattle.ph_items.specs.declared.transactions.Txn.{Txn}
 
 -- the version of a payment intent that an item is
@@ -20,7 +24,9 @@ intent_in (item.Charge charge) = None
 intent_in (item.Refund refund) = None
 intent_in (item.Dispute dispute) = None
 intent_in (item.Transfer transfer) = None
+intent_in (item.Reversal reversal) = None
 intent_in (item.Fee fee) = None
+intent_in (item.FeeRefund fee_refund) = None
 intent_in (item.Txn txn) = None
 intent_in (item.Event event) = None
 
@@ -33,7 +39,9 @@ attempt_in (item.Charge charge) = None
 attempt_in (item.Refund refund) = None
 attempt_in (item.Dispute dispute) = None
 attempt_in (item.Transfer transfer) = None
+attempt_in (item.Reversal reversal) = None
 attempt_in (item.Fee fee) = None
+attempt_in (item.FeeRefund fee_refund) = None
 attempt_in (item.Txn txn) = None
 attempt_in (item.Event event) = None
 
@@ -46,7 +54,9 @@ charge_in (item.Charge charge) = Some charge
 charge_in (item.Refund refund) = None
 charge_in (item.Dispute dispute) = None
 charge_in (item.Transfer transfer) = None
+charge_in (item.Reversal reversal) = None
 charge_in (item.Fee fee) = None
+charge_in (item.FeeRefund fee_refund) = None
 charge_in (item.Txn txn) = None
 charge_in (item.Event event) = None
 
@@ -68,7 +78,9 @@ refund_in (item.Charge charge) = None
 refund_in (item.Refund refund) = Some refund
 refund_in (item.Dispute dispute) = None
 refund_in (item.Transfer transfer) = None
+refund_in (item.Reversal reversal) = None
 refund_in (item.Fee fee) = None
+refund_in (item.FeeRefund fee_refund) = None
 refund_in (item.Txn txn) = None
 refund_in (item.Event event) = None
 
@@ -81,9 +93,71 @@ dispute_in (item.Charge charge) = None
 dispute_in (item.Refund refund) = None
 dispute_in (item.Dispute dispute) = Some dispute
 dispute_in (item.Transfer transfer) = None
+dispute_in (item.Reversal reversal) = None
 dispute_in (item.Fee fee) = None
+dispute_in (item.FeeRefund fee_refund) = None
 dispute_in (item.Txn txn) = None
 dispute_in (item.Event event) = None
+
+-- the version of a transfer that an item is
+abbrev pub transfer_in : Item → Option Transfer
+transfer_in (item.Account account) = None
+transfer_in (item.Intent intent) = None
+transfer_in (item.Attempt attempt) = None
+transfer_in (item.Charge charge) = None
+transfer_in (item.Refund refund) = None
+transfer_in (item.Dispute dispute) = None
+transfer_in (item.Transfer transfer) = Some transfer
+transfer_in (item.Reversal reversal) = None
+transfer_in (item.Fee fee) = None
+transfer_in (item.FeeRefund fee_refund) = None
+transfer_in (item.Txn txn) = None
+transfer_in (item.Event event) = None
+
+-- the reversal that an item is
+abbrev pub reversal_in : Item → Option Reversal
+reversal_in (item.Account account) = None
+reversal_in (item.Intent intent) = None
+reversal_in (item.Attempt attempt) = None
+reversal_in (item.Charge charge) = None
+reversal_in (item.Refund refund) = None
+reversal_in (item.Dispute dispute) = None
+reversal_in (item.Transfer transfer) = None
+reversal_in (item.Reversal reversal) = Some reversal
+reversal_in (item.Fee fee) = None
+reversal_in (item.FeeRefund fee_refund) = None
+reversal_in (item.Txn txn) = None
+reversal_in (item.Event event) = None
+
+-- the version of an application fee that an item is
+abbrev pub fee_in : Item → Option Fee
+fee_in (item.Account account) = None
+fee_in (item.Intent intent) = None
+fee_in (item.Attempt attempt) = None
+fee_in (item.Charge charge) = None
+fee_in (item.Refund refund) = None
+fee_in (item.Dispute dispute) = None
+fee_in (item.Transfer transfer) = None
+fee_in (item.Reversal reversal) = None
+fee_in (item.Fee fee) = Some fee
+fee_in (item.FeeRefund fee_refund) = None
+fee_in (item.Txn txn) = None
+fee_in (item.Event event) = None
+
+-- the fee refund that an item is
+abbrev pub fee_refund_in : Item → Option FeeRefund
+fee_refund_in (item.Account account) = None
+fee_refund_in (item.Intent intent) = None
+fee_refund_in (item.Attempt attempt) = None
+fee_refund_in (item.Charge charge) = None
+fee_refund_in (item.Refund refund) = None
+fee_refund_in (item.Dispute dispute) = None
+fee_refund_in (item.Transfer transfer) = None
+fee_refund_in (item.Reversal reversal) = None
+fee_refund_in (item.Fee fee) = None
+fee_refund_in (item.FeeRefund fee_refund) = Some fee_refund
+fee_refund_in (item.Txn txn) = None
+fee_refund_in (item.Event event) = None
 
 -- the transaction that an item is
 abbrev pub txn_in : Item → Option Txn
@@ -94,7 +168,9 @@ txn_in (item.Charge charge) = None
 txn_in (item.Refund refund) = None
 txn_in (item.Dispute dispute) = None
 txn_in (item.Transfer transfer) = None
+txn_in (item.Reversal reversal) = None
 txn_in (item.Fee fee) = None
+txn_in (item.FeeRefund fee_refund) = None
 txn_in (item.Txn txn) = Some txn
 txn_in (item.Event event) = None
 

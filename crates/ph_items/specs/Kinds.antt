@@ -15,7 +15,9 @@ kind_of (item.Charge charge) = charge_kind charge.sort
 kind_of (item.Refund refund) = kind.Refund
 kind_of (item.Dispute dispute) = kind.Dispute
 kind_of (item.Transfer transfer) = kind.Transfer
+kind_of (item.Reversal reversal) = kind.Reversal
 kind_of (item.Fee fee) = kind.Fee
+kind_of (item.FeeRefund fee_refund) = kind.FeeRefund
 kind_of (item.Txn txn) = kind.Txn
 kind_of (item.Event event) = kind.Event
 

@@ -21,7 +21,9 @@ movement_of (item.Charge charge) = None
 movement_of (item.Refund refund) = None
 movement_of (item.Dispute dispute) = None
 movement_of (item.Transfer transfer) = None
+movement_of (item.Reversal reversal) = None
 movement_of (item.Fee fee) = None
+movement_of (item.FeeRefund fee_refund) = None
 movement_of (item.Txn txn) = Some (movement_by txn)
 movement_of (item.Event event) = None
 

@@ -13,7 +13,9 @@ source_kind (source.Payment number) = kind.Payment
 source_kind (source.Refund number) = kind.Refund
 source_kind (source.Dispute number) = kind.Dispute
 source_kind (source.Transfer number) = kind.Transfer
+source_kind (source.Reversal number) = kind.Reversal
 source_kind (source.Fee number) = kind.Fee
+source_kind (source.FeeRefund number) = kind.FeeRefund
 
 -- the number of that object
 abbrev pub source_number : TxnSource → ℕ
@@ -22,7 +24,9 @@ source_number (source.Payment number) = number
 source_number (source.Refund number) = number
 source_number (source.Dispute number) = number
 source_number (source.Transfer number) = number
+source_number (source.Reversal number) = number
 source_number (source.Fee number) = number
+source_number (source.FeeRefund number) = number
 
 -- what a transaction gives to the balance of its account: its amount less its fee
 abbrev pub net_amount : Txn → ℤ

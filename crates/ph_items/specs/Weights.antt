@@ -34,8 +34,11 @@ texts_of (item.Charge charge) =
     (with_text charge.description (with_text charge.transfer_group (metadata_texts charge.metadata)))
 texts_of (item.Refund refund) = metadata_texts refund.metadata
 texts_of (item.Dispute dispute) = with_text dispute.evidence []
-texts_of (item.Transfer transfer) = with_text transfer.transfer_group []
+texts_of (item.Transfer transfer) =
+    with_text transfer.description (with_text transfer.transfer_group (metadata_texts transfer.metadata))
+texts_of (item.Reversal reversal) = metadata_texts reversal.metadata
 texts_of (item.Fee fee) = []
+texts_of (item.FeeRefund fee_refund) = metadata_texts fee_refund.metadata
 texts_of (item.Txn txn) = []
 texts_of (item.Event event) = with_text event.key []
 

@@ -62,6 +62,7 @@ txn_type_text txn_type.Payment = codes "payment"
 txn_type_text txn_type.Refund = codes "refund"
 txn_type_text txn_type.Transfer = codes "transfer"
 txn_type_text txn_type.ApplicationFee = codes "application_fee"
+txn_type_text txn_type.ApplicationFeeRefund = codes "application_fee_refund"
 txn_type_text txn_type.Adjustment = codes "adjustment"
 
 -- the word of a reason for a refund

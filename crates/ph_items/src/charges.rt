@@ -97,6 +97,8 @@ pub struct Charge {
     pub amount: Amount,
     pub amount_captured: Amount,
     pub amount_refunded: Amount,
+    /// What transfers drew on it: all that was captured, where it has a destination.
+    pub amount_transferred: Amount,
     pub currency: Currency,
     pub status: ChargeStatus,
     pub payment_method: Option<PaymentMethod>,
@@ -125,6 +127,7 @@ impl Charge {
             amount: self.amount,
             amount_captured: self.amount_captured,
             amount_refunded: self.amount_refunded,
+            amount_transferred: self.amount_transferred,
             currency: self.currency,
             status: self.status,
             payment_method: copy_method(alloc, self.payment_method.as_ref())?,

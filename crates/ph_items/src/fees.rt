@@ -11,6 +11,8 @@ pub struct Fee {
     pub charge: u64,
     /// In minor units of the currency, and never 0.
     pub amount: Amount,
+    /// What was given back of it, in minor units of the currency.
+    pub amount_refunded: Amount,
     pub currency: Currency,
     /// The number of the transaction that gives the amount to the platform's balance.
     pub transaction: u64,

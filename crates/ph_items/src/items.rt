@@ -7,9 +7,11 @@ use crate::attempts::Attempt;
 use crate::charges::{Charge, ChargeSort};
 use crate::disputes::Dispute;
 use crate::events::Event;
+use crate::fee_refunds::FeeRefund;
 use crate::fees::Fee;
 use crate::intents::Intent;
 use crate::refunds::Refund;
+use crate::reversals::Reversal;
 use crate::transactions::Txn;
 use crate::transfers::Transfer;
 use ph_base::Kind;
@@ -24,7 +26,9 @@ pub enum Item {
     Refund(Refund),
     Dispute(Dispute),
     Transfer(Transfer),
+    Reversal(Reversal),
     Fee(Fee),
+    FeeRefund(FeeRefund),
     Txn(Txn),
     Event(Event),
 }
@@ -33,7 +37,7 @@ impl Item {
     ghost use Rattle.std.specs.Prelude.{◌≡◌};
     ghost use Rattle.std.specs.Option.{option_copied};
     ghost use Rattle.ph_items.specs.Kinds.{kind_of};
-    ghost use Rattle.ph_items.specs.Items.{intent_in, attempt_in, charge_in, card_charge_in, refund_in, dispute_in, txn_in};
+    ghost use Rattle.ph_items.specs.Items.{intent_in, attempt_in, charge_in, card_charge_in, refund_in, dispute_in, transfer_in, reversal_in, fee_in, fee_refund_in, txn_in};
 
     /// The kind of the object.
     pub fn kind(&self) -> Kind
@@ -47,7 +51,9 @@ impl Item {
             Item::Refund(_) => Kind::Refund,
             Item::Dispute(_) => Kind::Dispute,
             Item::Transfer(_) => Kind::Transfer,
+            Item::Reversal(_) => Kind::Reversal,
             Item::Fee(_) => Kind::Fee,
+            Item::FeeRefund(_) => Kind::FeeRefund,
             Item::Txn(_) => Kind::Txn,
             Item::Event(_) => Kind::Event,
         }
@@ -65,7 +71,9 @@ impl Item {
             | Item::Refund(_)
             | Item::Dispute(_)
             | Item::Transfer(_)
+            | Item::Reversal(_)
             | Item::Fee(_)
+            | Item::FeeRefund(_)
             | Item::Txn(_)
             | Item::Event(_) => None,
         }
@@ -83,7 +91,9 @@ impl Item {
             | Item::Refund(_)
             | Item::Dispute(_)
             | Item::Transfer(_)
+            | Item::Reversal(_)
             | Item::Fee(_)
+            | Item::FeeRefund(_)
             | Item::Txn(_)
             | Item::Event(_) => None,
         }
@@ -101,7 +111,9 @@ impl Item {
             | Item::Refund(_)
             | Item::Dispute(_)
             | Item::Transfer(_)
+            | Item::Reversal(_)
             | Item::Fee(_)
+            | Item::FeeRefund(_)
             | Item::Txn(_)
             | Item::Event(_) => None,
         }
@@ -130,7 +142,9 @@ impl Item {
             | Item::Charge(_)
             | Item::Dispute(_)
             | Item::Transfer(_)
+            | Item::Reversal(_)
             | Item::Fee(_)
+            | Item::FeeRefund(_)
             | Item::Txn(_)
             | Item::Event(_) => None,
         }
@@ -148,6 +162,88 @@ impl Item {
             | Item::Charge(_)
             | Item::Refund(_)
             | Item::Transfer(_)
+            | Item::Reversal(_)
+            | Item::Fee(_)
+            | Item::FeeRefund(_)
+            | Item::Txn(_)
+            | Item::Event(_) => None,
+        }
+    }
+
+    /// The version of a transfer that it is. None exactly where it is another object's.
+    pub fn transfer(&self) -> Option<&Transfer>
+        ensures { option_copied result ≡ transfer_in self.now }
+    {
+        match self {
+            Item::Transfer(transfer) => Some(transfer),
+            Item::Account(_)
+            | Item::Intent(_)
+            | Item::Attempt(_)
+            | Item::Charge(_)
+            | Item::Refund(_)
+            | Item::Dispute(_)
+            | Item::Reversal(_)
+            | Item::Fee(_)
+            | Item::FeeRefund(_)
+            | Item::Txn(_)
+            | Item::Event(_) => None,
+        }
+    }
+
+    /// The reversal that it is. None exactly where it is another object's.
+    pub fn reversal(&self) -> Option<&Reversal>
+        ensures { option_copied result ≡ reversal_in self.now }
+    {
+        match self {
+            Item::Reversal(reversal) => Some(reversal),
+            Item::Account(_)
+            | Item::Intent(_)
+            | Item::Attempt(_)
+            | Item::Charge(_)
+            | Item::Refund(_)
+            | Item::Dispute(_)
+            | Item::Transfer(_)
+            | Item::Fee(_)
+            | Item::FeeRefund(_)
+            | Item::Txn(_)
+            | Item::Event(_) => None,
+        }
+    }
+
+    /// The version of an application fee that it is. None exactly where it is another object's.
+    pub fn fee(&self) -> Option<&Fee>
+        ensures { option_copied result ≡ fee_in self.now }
+    {
+        match self {
+            Item::Fee(fee) => Some(fee),
+            Item::Account(_)
+            | Item::Intent(_)
+            | Item::Attempt(_)
+            | Item::Charge(_)
+            | Item::Refund(_)
+            | Item::Dispute(_)
+            | Item::Transfer(_)
+            | Item::Reversal(_)
+            | Item::FeeRefund(_)
+            | Item::Txn(_)
+            | Item::Event(_) => None,
+        }
+    }
+
+    /// The fee refund that it is. None exactly where it is another object's.
+    pub fn fee_refund(&self) -> Option<&FeeRefund>
+        ensures { option_copied result ≡ fee_refund_in self.now }
+    {
+        match self {
+            Item::FeeRefund(fee_refund) => Some(fee_refund),
+            Item::Account(_)
+            | Item::Intent(_)
+            | Item::Attempt(_)
+            | Item::Charge(_)
+            | Item::Refund(_)
+            | Item::Dispute(_)
+            | Item::Transfer(_)
+            | Item::Reversal(_)
             | Item::Fee(_)
             | Item::Txn(_)
             | Item::Event(_) => None,
@@ -167,7 +263,9 @@ impl Item {
             | Item::Refund(_)
             | Item::Dispute(_)
             | Item::Transfer(_)
+            | Item::Reversal(_)
             | Item::Fee(_)
+            | Item::FeeRefund(_)
             | Item::Event(_) => None,
         }
     }

@@ -47,7 +47,9 @@ impl Item {
             | Item::Refund(_)
             | Item::Dispute(_)
             | Item::Transfer(_)
+            | Item::Reversal(_)
             | Item::Fee(_)
+            | Item::FeeRefund(_)
             | Item::Event(_) => None,
         }
     }

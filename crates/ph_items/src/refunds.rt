@@ -42,4 +42,6 @@ pub struct Refund {
     pub metadata: Metadata,
     /// The number of the transaction that takes the amount from the account's balance.
     pub transaction: u64,
+    /// The number of the reversal that it made of the charge's transfer, where it did.
+    pub reversal: Option<u64>,
 }

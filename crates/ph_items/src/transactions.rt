@@ -12,11 +12,14 @@ pub enum TxnType {
     /// What a transfer gives to the account that it goes to.
     Payment,
     Refund,
-    /// What a transfer takes from the platform.
+    /// What a transfer takes from the platform, and what a reversal gives back to it.
     Transfer,
     /// What the platform takes of a charge for itself.
     ApplicationFee,
-    /// What a dispute takes, and gives back where it is won.
+    /// What the platform gives back of an application fee.
+    ApplicationFeeRefund,
+    /// What a dispute takes, and gives back where it is won; what a reversal takes from the account that the transfer went to;
+    /// what a fee refund gives to the account that the fee was taken from.
     Adjustment,
 }
 
@@ -34,6 +37,7 @@ impl TxnType {
             TxnType::Refund => b"refund",
             TxnType::Transfer => b"transfer",
             TxnType::ApplicationFee => b"application_fee",
+            TxnType::ApplicationFeeRefund => b"application_fee_refund",
             TxnType::Adjustment => b"adjustment",
         }
     }
@@ -47,7 +51,9 @@ pub enum TxnSource {
     Refund(u64),
     Dispute(u64),
     Transfer(u64),
+    Reversal(u64),
     Fee(u64),
+    FeeRefund(u64),
 }
 
 impl TxnSource {
@@ -64,7 +70,9 @@ impl TxnSource {
             TxnSource::Refund(_) => Kind::Refund,
             TxnSource::Dispute(_) => Kind::Dispute,
             TxnSource::Transfer(_) => Kind::Transfer,
+            TxnSource::Reversal(_) => Kind::Reversal,
             TxnSource::Fee(_) => Kind::Fee,
+            TxnSource::FeeRefund(_) => Kind::FeeRefund,
         }
     }
 
@@ -78,7 +86,9 @@ impl TxnSource {
             | TxnSource::Refund(number)
             | TxnSource::Dispute(number)
             | TxnSource::Transfer(number)
-            | TxnSource::Fee(number) => number,
+            | TxnSource::Reversal(number)
+            | TxnSource::Fee(number)
+            | TxnSource::FeeRefund(number) => number,
         }
     }
 }

@@ -1,14 +1,20 @@
 //! Transfers.
+ghost use Rattle.std.specs.Prelude.{◌≡◌, IfOk};
 
-use ph_base::Bytes;
+use crate::copies::copy_text;
+use crate::metadata_pairs::Metadata;
+use ph_base::{Bytes, NoMemory};
 use ph_money::{Amount, Currency};
+use std::alloc::Global;
 
 /// A version of a transfer: what the platform gives to a connected account, where a payment stands for it. It belongs to
-/// the platform. Transfers are made of destination charges, each with its charge's transfer group.
+/// the platform. A transfer that a destination charge makes has the charge's transfer group, no description and no metadata.
 #[derive(Drop, Debug)]
 pub struct Transfer {
-    /// In minor units of the currency.
+    /// In minor units of the currency, and never 0.
     pub amount: Amount,
+    /// What its reversals took back, in minor units of the currency.
+    pub amount_reversed: Amount,
     pub currency: Currency,
     /// The number of the connected account.
     pub destination: u64,
@@ -20,5 +26,30 @@ pub struct Transfer {
     pub transaction: u64,
     /// The moment from which that transaction counts as available, in seconds since 1970.
     pub available_on: u64,
+    pub description: Option<Bytes>,
+    pub metadata: Metadata,
     pub transfer_group: Option<Bytes>,
+}
+
+impl Transfer {
+    ghost use Rattle.std.specs.Prelude.{◌≡◌, IfOk};
+
+    /// The same version once more.
+    pub fn copy(&self, alloc: Global) -> Result<Self, NoMemory>
+        ensures { IfOk result (λ copy. copy ≡ self.now) }
+    {
+        Ok(Transfer {
+            amount: self.amount,
+            amount_reversed: self.amount_reversed,
+            currency: self.currency,
+            destination: self.destination,
+            payment: self.payment,
+            source: self.source,
+            transaction: self.transaction,
+            available_on: self.available_on,
+            description: copy_text(alloc, self.description.as_ref())?,
+            metadata: self.metadata.copy(alloc)?,
+            transfer_group: copy_text(alloc, self.transfer_group.as_ref())?,
+        })
+    }
 }

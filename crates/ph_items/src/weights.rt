@@ -35,7 +35,13 @@ impl Item {
             }
             Item::Refund(refund) => plus_pairs(sum, refund.metadata.pairs()),
             Item::Dispute(dispute) => plus_text(sum, dispute.evidence.as_ref()),
-            Item::Transfer(transfer) => plus_text(sum, transfer.transfer_group.as_ref()),
+            Item::Transfer(transfer) => {
+                let sum = plus_text(sum, transfer.description.as_ref())?;
+                let sum = plus_text(sum, transfer.transfer_group.as_ref())?;
+                plus_pairs(sum, transfer.metadata.pairs())
+            }
+            Item::Reversal(reversal) => plus_pairs(sum, reversal.metadata.pairs()),
+            Item::FeeRefund(fee_refund) => plus_pairs(sum, fee_refund.metadata.pairs()),
             Item::Attempt(_) | Item::Fee(_) | Item::Txn(_) => Some(sum),
             Item::Event(event) => plus_text(sum, event.key.as_ref()),
         }
