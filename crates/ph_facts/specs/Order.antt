@@ -37,12 +37,14 @@ abbrev pub HasSubject : Option Row → Row → Event → Type 0
 HasSubject None row event = ⊥
 HasSubject (Some first) row event = SpeaksOf first row event
 
--- no more was captured of a charge than the acquirer was asked for, and no more was refunded than was captured
+-- no more was captured of a charge than the acquirer was asked for, and no more was refunded, or transferred, than was captured
 pub record IsWithin (charge : Charge) : Type 0 where
   pub captured : charge.amount_captured ≤ charge.amount
   pub refunded : charge.amount_refunded ≤ charge.amount_captured
+  pub transferred : charge.amount_transferred ≤ charge.amount_captured
 
--- the amounts of a version fit one another: so do those of a charge
+-- the amounts of a version fit one another: those of a charge; no more was reversed of a transfer than its amount, and no more given
+-- back of an application fee than it is
 abbrev pub AmountsFit : Item → Type 0
 AmountsFit (item.Account account) = Unit {0}
 AmountsFit (item.Intent intent) = Unit {0}
@@ -50,8 +52,10 @@ AmountsFit (item.Attempt attempt) = Unit {0}
 AmountsFit (item.Charge charge) = IsWithin charge
 AmountsFit (item.Refund refund) = Unit {0}
 AmountsFit (item.Dispute dispute) = Unit {0}
-AmountsFit (item.Transfer transfer) = Unit {0}
-AmountsFit (item.Fee fee) = Unit {0}
+AmountsFit (item.Transfer transfer) = transfer.amount_reversed ≤ transfer.amount
+AmountsFit (item.Reversal reversal) = Unit {0}
+AmountsFit (item.Fee fee) = fee.amount_refunded ≤ fee.amount
+AmountsFit (item.FeeRefund fee_refund) = Unit {0}
 AmountsFit (item.Txn txn) = Unit {0}
 AmountsFit (item.Event event) = Unit {0}
 
@@ -67,7 +71,7 @@ pub record IsInOrder (state : ViewState) : Type 0 where
   pub begun : (place : ℕ) (row : Row) → row_at place state.rows ≡ Some row → HasBegun (row_at row.object state.rows) row
   -- no version of an object stands before its first one
   pub first : (place : ℕ) (row : Row) → row_at place state.rows ≡ Some row → row.object ≤ place
-  -- refunds, transactions and events have one version
+  -- refunds, reversals, fee refunds, transactions and events have one version
   pub once : (place : ℕ) (row : Row) → row_at place state.rows ≡ Some row → is_made_once row.item ≡ true → row.object ≡ place
   -- no row is of a later time
   pub past : (place : ℕ) (row : Row) → row_at place state.rows ≡ Some row → row.at ≤ state.time

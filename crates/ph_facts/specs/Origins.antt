@@ -21,6 +21,11 @@ abbrev pub charge_named : Option ℕ → List Origin
 charge_named None = []
 charge_named (Some number) = record { kind = kind.Charge; number = number } ∷ []
 
+-- the refund of a number, where there is one
+abbrev pub refund_named : Option ℕ → List Origin
+refund_named None = []
+refund_named (Some number) = record { kind = kind.Refund; number = number } ∷ []
+
 -- what a charge is made for: its payment intent, or its transfer
 abbrev pub charge_origin : ChargeSort → Origin
 charge_origin (charge_sort.Card intent) = record { kind = kind.Intent; number = intent }
@@ -28,7 +33,7 @@ charge_origin (charge_sort.Payment transfer) = record { kind = kind.Transfer; nu
 
 -- the objects that an item names and that stand before it: the latest charge of a payment intent, the payment intent of
 -- an attempt, what a charge is made for, the charge of a refund, of a dispute, of a transfer and of an application fee, the
--- source of a transaction
+-- transfer of a reversal, and the refund that made it, the application fee of a fee refund, the source of a transaction
 abbrev pub origins_of : Item → List Origin
 origins_of (item.Account account) = []
 origins_of (item.Intent intent) = charge_named intent.latest_charge
@@ -37,7 +42,9 @@ origins_of (item.Charge charge) = charge_origin charge.sort ∷ []
 origins_of (item.Refund refund) = record { kind = kind.Charge; number = refund.charge } ∷ []
 origins_of (item.Dispute dispute) = record { kind = kind.Charge; number = dispute.charge } ∷ []
 origins_of (item.Transfer transfer) = charge_named transfer.source
+origins_of (item.Reversal reversal) = record { kind = kind.Transfer; number = reversal.transfer } ∷ refund_named reversal.refund
 origins_of (item.Fee fee) = record { kind = kind.Charge; number = fee.charge } ∷ []
+origins_of (item.FeeRefund fee_refund) = record { kind = kind.Fee; number = fee_refund.fee } ∷ []
 origins_of (item.Txn txn) = record { kind = source_kind txn.source; number = source_number txn.source } ∷ []
 origins_of (item.Event event) = []
 
@@ -65,6 +72,8 @@ is_made_once (item.Charge charge) = false
 is_made_once (item.Refund refund) = true
 is_made_once (item.Dispute dispute) = false
 is_made_once (item.Transfer transfer) = false
+is_made_once (item.Reversal reversal) = true
 is_made_once (item.Fee fee) = false
+is_made_once (item.FeeRefund fee_refund) = true
 is_made_once (item.Txn txn) = true
 is_made_once (item.Event event) = true

@@ -30,7 +30,9 @@ shown_by object (item.Charge charge) = None
 shown_by object (item.Refund refund) = None
 shown_by object (item.Dispute dispute) = None
 shown_by object (item.Transfer transfer) = None
+shown_by object (item.Reversal reversal) = None
 shown_by object (item.Fee fee) = None
+shown_by object (item.FeeRefund fee_refund) = None
 shown_by object (item.Txn txn) = None
 shown_by object (item.Event event) = None
 

@@ -2,7 +2,7 @@
 use Rattle.std.specs.Prelude.{List}
 use Rattle.ph_rows.specs.declared.rows.Row.{Row}
 use Rattle.ph_rows.specs.Views.{ViewState}
-use Rattle.ph_facts.specs.Amounts.{captured, refunded, moved}
+use Rattle.ph_facts.specs.Amounts.{captured, refunded, transferred, reversed, given_back, moved}
 use Rattle.ph_facts.specs.Held.{AreHeld}
 use Rattle.ph_facts.specs.Order.{IsInOrder}
 use Rattle.ph_facts.specs.Tallies.{SaySums}
@@ -13,6 +13,12 @@ pub record KeepLaws (rows : List Row) : Type 0 where
   pub captured : SaySums captured rows
   -- what was refunded of each charge is the sum of its refunds
   pub refunded : SaySums refunded rows
+  -- what was transferred of each charge is the sum of the transfers that are drawn on it
+  pub transferred : SaySums transferred rows
+  -- what was reversed of each transfer is the sum of its reversals
+  pub reversed : SaySums reversed rows
+  -- what was given back of each application fee is the sum of its refunds
+  pub given_back : SaySums given_back rows
   -- each dispute has moved what its status says
   pub moved : SaySums moved rows
   -- what a payment intent that waits for its capture may capture is held by its charge

@@ -1,10 +1,9 @@
 -- Amounts of objects, as rows add up to them.
 use Rattle.std.specs.Prelude.{◌≡◌, ℕ, ◌==◌, if◌then◌else◌, List, [], ◌∷◌, Option, None, Some}
-use Rattle.ph_items.specs.declared.items.Item.{Item}
 use Rattle.ph_rows.specs.declared.rows.Row.{Row}
 use Rattle.ph_rows.specs.Rows.{latest_of}
 
--- what an item adds, and the number of the object to whose amount it is added
+-- what a row adds, and the number of the object to whose amount it is added
 pub record Addition (A : Type 0) : Type 0 where
   pub object : ℕ
   pub amount : A
@@ -15,8 +14,8 @@ pub record Tally (A : Type 0) : Type 0 where
   pub nothing : A
   -- one amount, and another behind it
   pub plus : A → A → A
-  -- what an item adds to it, if it adds anything
-  pub adds : Item → Option (Addition A)
+  -- what a row adds to it, if it adds anything
+  pub adds : Row → Option (Addition A)
   -- what a version of an object says that its own is, if it says anything of it
   pub said : Item → Option A
 
@@ -29,7 +28,7 @@ given nothing object (Some addition) = if addition.object == object then additio
 abbrev pub sum_for : {A : Type 0} → Tally A → ℕ → List Row → A
 sum_for tally object [] = tally.nothing
 sum_for tally object (row ∷ rows) =
-    tally.plus (given tally.nothing object (tally.adds row.item)) (sum_for tally object rows)
+    tally.plus (given tally.nothing object (tally.adds row)) (sum_for tally object rows)
 
 -- the present version of an object says what the rows add up to, where it says anything
 abbrev pub SaysSum : {A : Type 0} → Tally A → ℕ → List Row → Type 0
