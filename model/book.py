@@ -8,6 +8,7 @@ import keys
 import parameters
 import refunds
 import rows as book_rows
+import transfers
 import views
 from errors import Refusal, Reply
 
@@ -32,8 +33,11 @@ CALLS = {
     "close_dispute": disputes.close,
     "create_account": connect.create_account,
     "get_account": views.retrieve("account"),
+    "create_transfer": transfers.transfer,
     "get_transfer": views.retrieve("transfer"),
+    "reverse_transfer": transfers.reverse,
     "get_fee": views.retrieve("fee"),
+    "refund_fee": transfers.refund_fee,
     "get_balance": views.balance,
     "get_txn": views.retrieve("txn"),
 }

@@ -3,6 +3,7 @@
 import money
 import parameters
 import rows as book_rows
+import transfers
 import views
 from errors import Refusal
 
@@ -67,12 +68,9 @@ def split(batch, charge, amount):
     if item["destination"] is not None:
         to = item["destination"]
         txn(account, "charge", amount, processing, charge)
-        transfer = batch.add("transfer", {"amount": amount, "currency": currency, "destination": to, "charge": charge,
-                                          "available_on": moment, "transfer_group": item["transfer_group"]},
-                             book_rows.PLATFORM)
-        txn(book_rows.PLATFORM, "transfer", -amount, 0, transfer)
-        payment = batch.add("payment", {"transfer": transfer, "amount": amount, "currency": currency}, to)
-        txn(to, "payment", amount, taken, payment)
+        transfer = transfers.add_transfer(batch, amount, currency, to, charge, moment, {
+            "description": None, "metadata": {}, "transfer_group": item["transfer_group"]})
+        txn(to, "payment", amount, taken, transfers.payment_of(batch.rows, transfer))
         take(to)
     elif account != book_rows.PLATFORM:
         txn(account, "charge", amount, processing + taken, charge)
@@ -89,15 +87,12 @@ def tell_split(batch, charge):
 
 
 def transfer_of(rows, charge):
-    """The transfer that a charge made, or None."""
+    """The transfer that a charge with a destination made, or None."""
+    if book_rows.latest(rows, charge).item.get("destination") is None:
+        return None
     return next((row.object for row in rows if row.kind == "transfer" and row.item["charge"] == charge), None)
 
 
 def fee_of(rows, charge):
     """The application fee that was taken of a charge, or None."""
     return next((row.object for row in rows if row.kind == "fee" and row.item["charge"] == charge), None)
-
-
-def payment_of(rows, transfer):
-    """The payment that a transfer gave."""
-    return next(row.object for row in rows if row.kind == "payment" and row.item["transfer"] == transfer)

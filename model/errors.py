@@ -40,6 +40,7 @@ TABLE = {
     "refunded": (400, INVALID, "charge_already_refunded", None, "The charge has been refunded.", False),
     "disputed": (400, INVALID, "charge_disputed", None, "The charge is disputed.", False),
     "platform_only": (400, INVALID, None, "Stripe-Account", "Not possible on a connected account.", False),
+    "too_little": (400, INVALID, "balance_insufficient", None, "Insufficient available funds.", False),
     "clock_backwards": (400, INVALID, "clock_backwards", "now", "The clock does not go back.", False),
     # the card and its acquirer
     "declined": (402, "card_error", "card_declined", None, "Your card was declined.", False),

@@ -39,7 +39,8 @@ METADATA = ["metadata[a]=1", "metadata[b]=2", "metadata[a]=", "metadata=", "meta
 STRANGE = ["foo=1", "expand[]=latest_charge", "expand=x", "submit=true", "return_url[a][b]=1", "off_session=x",
            "a[=1", "[a]=1", "a[b][c][d][e][f]=1", "amount=2000", "amount[]=1", "&&", "=", "currency[a]=usd", "a]=1",
            "b[]=1&b[0]=2"]
-PREFIXES = ["pi_", "pi_", "ch_", "ch_", "dp_", "re_", "txn_", "evt_", "acct_", "py_", "tr_", "fee_", "PI_"]
+PREFIXES = ["pi_", "pi_", "ch_", "ch_", "dp_", "re_", "txn_", "evt_", "acct_", "py_", "tr_", "trr_", "fee_", "fr_", "PI_"]
+TRUTHS = ["true", "true", "TRUE", "false", "no"]
 FEES = ["0", "1", "100", "100", "500", "2000", "2001", "99999999"]
 
 
@@ -168,6 +169,32 @@ class Session:
             (0.6, f"amount={self.one(['500', '500', '1500', '1', '2000', '0'] if self.likely(0.9) else AMOUNTS)}"),
             (0.3, f"reason={self.one(REASONS)}"),
             (0.2, self.one(METADATA)),
+            (0.4, f"reverse_transfer={self.one(TRUTHS)}"),
+            (0.4, f"refund_application_fee={self.one(TRUTHS)}"),
+        ])
+
+    def transfer(self):
+        made = self.connected()
+        return "POST", "/v1/transfers", self.form([
+            (0.95, f"amount={self.one(['1', '500', '1000', '1912', '0'] if self.likely(0.9) else AMOUNTS)}"),
+            (0.95, f"currency={self.one(['usd', 'usd', 'usd', 'eur', 'USD'])}"),
+            (0.97, f"destination={self.one(made) if made and self.likely(0.9) else self.identity('acct_')}"),
+            (0.5, f"source_transaction={self.identity('ch_')}"),
+            (0.1, f"description={self.one(TEXTS)}"),
+            (0.1, self.one(METADATA)),
+            (0.1, f"transfer_group={self.one(TEXTS)}"),
+        ])
+
+    def reversal(self):
+        return "POST", f"/v1/transfers/{self.identity('tr_')}/reversals", self.form([
+            (0.7, f"amount={self.one(['1', '400', '500', '600', '0'] if self.likely(0.9) else AMOUNTS)}"),
+            (0.2, self.one(METADATA)),
+        ])
+
+    def fee_refund(self):
+        return "POST", f"/v1/application_fees/{self.identity('fee_')}/refunds", self.form([
+            (0.7, f"amount={self.one(['1', '50', '100', '101', '0'] if self.likely(0.9) else AMOUNTS)}"),
+            (0.2, self.one(METADATA)),
         ])
 
     def evidence(self):
@@ -202,7 +229,8 @@ class Session:
                  (self.account, "", 2),
                  (self.get, "pi_", 4), (self.update, "pi_", 2), (self.confirm, "pi_", 3), (self.capture, "pi_", 3),
                  (self.cancel, "pi_", 1), (self.authenticate, "pi_", 3), (self.refund, "ch_", 5),
-                 (self.evidence, "dp_", 2), (self.close, "dp_", 1)]
+                 (self.evidence, "dp_", 2), (self.close, "dp_", 1), (self.transfer, "acct_", 3),
+                 (self.reversal, "tr_", 3), (self.fee_refund, "fee_", 3)]
         possible = [call for call, prefix, share in calls for _ in range(share)
                     if any(text.startswith(prefix) for text in self.seen) or self.likely(0.05) or prefix == ""]
         self.whose = None

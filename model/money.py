@@ -1,4 +1,4 @@
-"""Currencies, fees, what charges and refunds come to, and balances. Amounts are in minor units of the currency.
+"""Currencies, fees, what charges, refunds and transfers come to, and balances. Amounts are in minor units of the currency.
 
 Every amount that changes is a sum over the rows.
 """
@@ -51,6 +51,27 @@ def captured(rows, charge):
 def refunded(rows, charge):
     """What the refunds of a charge gave back."""
     return sum(row.item["amount"] for row in rows if row.kind == "refund" and row.item["charge"] == charge)
+
+
+def transferred(rows, charge):
+    """What transfers drew on a charge."""
+    return sum(row.item["amount"] for row in rows
+               if row.kind == "transfer" and row.object == row.place and row.item["charge"] == charge)
+
+
+def reversed_of(rows, transfer):
+    """What the reversals of a transfer took back."""
+    return sum(row.item["amount"] for row in rows if row.kind == "reversal" and row.item["transfer"] == transfer)
+
+
+def given_back(rows, fee):
+    """What was given back of an application fee."""
+    return sum(row.item["amount"] for row in rows if row.kind == "fee_refund" and row.item["fee"] == fee)
+
+
+def part(whole, amount, of):
+    """The part of a whole that an amount is of another, to the nearest unit, a half up."""
+    return (2 * whole * amount + of) // (2 * of)
 
 
 def capturable(rows, intent):

@@ -6,6 +6,8 @@ import re
 import connect
 import money
 import rows as book_rows
+import transfers
+import views
 
 
 def shown(text):
@@ -63,6 +65,7 @@ def charge(rows, number, item):
         f"{item['status']} {item['amount']} {item['currency']}"
         + amount("captured", money.captured(rows, number))
         + amount("refunded", money.refunded(rows, number))
+        + amount("transferred", money.transferred(rows, number))
         + named("intent", item["intent"])
         + named("method", item["payment_method"])
         + named("fee", item["fee"])
@@ -83,14 +86,24 @@ def payment(rows, number, item):
 
 
 def transfer(rows, number, item):
-    return (f"{item['amount']} {item['currency']} destination={item['destination']}"
-            f" payment={connect.payment_of(rows, number)} charge={item['charge']} txn={txn_of(rows, number)}"
-            f" on={item['available_on']}" + named("group", item["transfer_group"]))
+    return (f"{item['amount']} {item['currency']}" + amount("reversed", money.reversed_of(rows, number))
+            + f" destination={item['destination']} payment={transfers.payment_of(rows, number)}"
+            + named("charge", item["charge"]) + f" txn={txn_of(rows, number)} on={item['available_on']}"
+            + named("description", item["description"]) + named("group", item["transfer_group"]) + metadata(item))
+
+
+def reversal(rows, number, item):
+    return (f"{item['amount']} {item['currency']} transfer={item['transfer']}" + named("refund", item["refund"])
+            + f" txn={txn_of(rows, number)}" + metadata(item))
 
 
 def fee(rows, number, item):
-    return (f"{item['amount']} {item['currency']} from={item['account']} charge={item['charge']}"
-            f" txn={txn_of(rows, number)} on={item['available_on']}")
+    return (f"{item['amount']} {item['currency']}" + amount("refunded", money.given_back(rows, number))
+            + f" from={item['account']} charge={item['charge']} txn={txn_of(rows, number)} on={item['available_on']}")
+
+
+def fee_refund(rows, number, item):
+    return f"{item['amount']} {item['currency']} fee={item['fee']} txn={txn_of(rows, number)}" + metadata(item)
 
 
 def txn_of(rows, source):
@@ -101,7 +114,7 @@ def txn_of(rows, source):
 def refund(rows, number, item):
     of = book_rows.latest(rows, item["charge"]).item
     return (f"{item['amount']} {of['currency']} charge={item['charge']} intent={of['intent']} txn={txn_of(rows, number)}"
-            + named("reason", item["reason"]) + metadata(item))
+            + named("reversal", views.reversal_by(rows, number)) + named("reason", item["reason"]) + metadata(item))
 
 
 def dispute(rows, _number, item):
@@ -120,7 +133,8 @@ def event(_rows, _number, item):
 
 
 VERSIONS = {"account": account, "intent": intent, "attempt": attempt, "charge": charge, "refund": refund,
-            "dispute": dispute, "payment": payment, "transfer": transfer, "fee": fee, "txn": txn, "event": event}
+            "dispute": dispute, "payment": payment, "transfer": transfer, "reversal": reversal, "fee": fee,
+            "fee_refund": fee_refund, "txn": txn, "event": event}
 
 # What stands as the kind: a payment is a charge.
 NAMES = {"payment": "charge"}

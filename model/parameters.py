@@ -149,6 +149,10 @@ def check_create(given, account):
 def check_refund(given, _account):
     if ("charge" in given) == ("payment_intent" in given):
         raise Refusal("missing", "charge")
+    check_amount(given, _account)
+
+
+def check_amount(given, _account):
     if given.get("amount") == 0:
         raise Refusal("invalid", "amount")
 
@@ -215,6 +219,8 @@ CALLS = {
         may("amount", amount),
         may("reason", words(*REASONS_FOR_REFUND)),
         may("metadata", metadata),
+        may("reverse_transfer", truth),
+        may("refund_application_fee", truth),
     ], [], check_refund),
     "get_refund": ("GET /v1/refunds/{id}", [], [], None),
     "get_dispute": ("GET /v1/disputes/{id}", [], [], None),
@@ -228,8 +234,25 @@ CALLS = {
         may("metadata", metadata),
     ], ["country", "capabilities", "business_type", "business_profile", "tos_acceptance", "controller", "settings"], None),
     "get_account": ("GET /v1/accounts/{id}", [], [], None),
+    "create_transfer": ("POST /v1/transfers", [
+        must("amount", amount),
+        must("currency", currency),
+        must("destination", identity),
+        may("source_transaction", identity),
+        may("description", text(1000)),
+        may("metadata", metadata),
+        may("transfer_group", text(255)),
+    ], [], check_amount),
     "get_transfer": ("GET /v1/transfers/{id}", [], [], None),
+    "reverse_transfer": ("POST /v1/transfers/{id}/reversals", [
+        may("amount", amount),
+        may("metadata", metadata),
+    ], [], check_amount),
     "get_fee": ("GET /v1/application_fees/{id}", [], [], None),
+    "refund_fee": ("POST /v1/application_fees/{id}/refunds", [
+        may("amount", amount),
+        may("metadata", metadata),
+    ], [], check_amount),
     "get_balance": ("GET /v1/balance", [], [], None),
     "get_txn": ("GET /v1/balance_transactions/{id}", [], [], None),
     "authenticate": ("POST /_host/payment_intents/{id}/authenticate", [

@@ -10,7 +10,7 @@ PLATFORM = 1
 
 PREFIXES = {
     "account": "acct_", "intent": "pi_", "charge": "ch_", "payment": "py_", "refund": "re_", "dispute": "dp_",
-    "transfer": "tr_", "fee": "fee_", "txn": "txn_", "event": "evt_",
+    "transfer": "tr_", "reversal": "trr_", "fee": "fee_", "fee_refund": "fr_", "txn": "txn_", "event": "evt_",
 }
 
 

@@ -6,6 +6,7 @@ import connect
 import errors
 import money
 import rows as book_rows
+import transfers
 
 
 def text(document):
@@ -103,16 +104,16 @@ def transfer(rows, number, item, _time):
     return {
         **common(rows, number),
         "amount": item["amount"],
-        "amount_reversed": 0,
+        "amount_reversed": money.reversed_of(rows, number),
         "balance_transaction": printed(rows, txn_from(rows, number)),
         "currency": item["currency"],
-        "description": None,
+        "description": item["description"],
         "destination": printed(rows, item["destination"]),
-        "destination_payment": printed(rows, connect.payment_of(rows, number)),
+        "destination_payment": printed(rows, transfers.payment_of(rows, number)),
         "livemode": False,
-        "metadata": {},
+        "metadata": item["metadata"],
         "object": "transfer",
-        "reversed": False,
+        "reversed": money.reversed_of(rows, number) == item["amount"],
         "source_transaction": printed(rows, item["charge"]),
         "transfer_group": item["transfer_group"],
     }
@@ -123,13 +124,38 @@ def fee(rows, number, item, _time):
         **common(rows, number),
         "account": printed(rows, item["account"]),
         "amount": item["amount"],
-        "amount_refunded": 0,
+        "amount_refunded": money.given_back(rows, number),
         "balance_transaction": printed(rows, txn_from(rows, number)),
         "charge": printed(rows, item["charge"]),
         "currency": item["currency"],
         "livemode": False,
         "object": "application_fee",
-        "refunded": False,
+        "refunded": money.given_back(rows, number) == item["amount"],
+    }
+
+
+def reversal(rows, number, item, _time):
+    return {
+        **common(rows, number),
+        "amount": item["amount"],
+        "balance_transaction": printed(rows, txn_from(rows, number)),
+        "currency": item["currency"],
+        "metadata": item["metadata"],
+        "object": "transfer_reversal",
+        "source_refund": printed(rows, item["refund"]),
+        "transfer": printed(rows, item["transfer"]),
+    }
+
+
+def fee_refund(rows, number, item, _time):
+    return {
+        **common(rows, number),
+        "amount": item["amount"],
+        "balance_transaction": printed(rows, txn_from(rows, number)),
+        "currency": item["currency"],
+        "fee": printed(rows, item["fee"]),
+        "metadata": item["metadata"],
+        "object": "fee_refund",
     }
 
 
@@ -163,8 +189,13 @@ def refund(rows, number, item, _time):
         "payment_intent": printed(rows, of["intent"]),
         "reason": item["reason"],
         "status": "succeeded",
-        "transfer_reversal": None,
+        "transfer_reversal": printed(rows, reversal_by(rows, number)),
     }
+
+
+def reversal_by(rows, refund):
+    """The reversal that a refund made, or None."""
+    return next((row.object for row in rows if row.kind == "reversal" and row.item["refund"] == refund), None)
 
 
 def dispute(rows, number, item, _time):
@@ -199,7 +230,7 @@ def txn(rows, number, item, time):
 
 
 DOCUMENTS = {"account": account, "intent": intent, "charge": charge, "payment": payment, "refund": refund, "dispute": dispute,
-             "transfer": transfer, "fee": fee, "txn": txn}
+             "transfer": transfer, "reversal": reversal, "fee": fee, "fee_refund": fee_refund, "txn": txn}
 
 
 def balance(batch, _identity, _given):

@@ -5,8 +5,8 @@
 
 use ph_base::{Bytes, Decline, Method};
 use ph_items::{
-    Account, AccountType, Attempt, AttemptState, Charge, Dispute, Event, Fee, Intent, Item,
-    Metadata, Order, PaymentError, PaymentMethod, Refund, Transfer, Txn,
+    Account, AccountType, Attempt, AttemptState, Charge, Dispute, Event, Fee, FeeRefund, Intent,
+    Item, Metadata, Order, PaymentError, PaymentMethod, Refund, Reversal, Transfer, Txn,
 };
 use ph_money::{Amount, Currency, SignedAmount};
 use ph_rows::Row;
@@ -276,6 +276,7 @@ fn add_charge(alloc: Global, shown: &mut Vec<u8>, charge: &Charge) -> Result<(),
     add_amount(alloc, shown, charge.amount, charge.currency)?;
     add_part(alloc, shown, b"captured", charge.amount_captured)?;
     add_part(alloc, shown, b"refunded", charge.amount_refunded)?;
+    add_part(alloc, shown, b"transferred", charge.amount_transferred)?;
     add_link(alloc, shown, b"intent", charge.sort.intent())?;
     add_link(alloc, shown, b"transfer", charge.sort.transfer())?;
     add_method(shown, &charge.payment_method)?;
@@ -294,6 +295,7 @@ fn add_refund(alloc: Global, shown: &mut Vec<u8>, refund: &Refund) -> Result<(),
     add_named_number(alloc, shown, b"charge", refund.charge)?;
     add_link(alloc, shown, b"intent", refund.intent)?;
     add_named_number(alloc, shown, b"txn", refund.transaction)?;
+    add_link(alloc, shown, b"reversal", refund.reversal)?;
     match refund.reason {
         Some(reason) => add_named_word(shown, b"reason", reason.text())?,
         None => {}
@@ -313,21 +315,46 @@ fn add_dispute(alloc: Global, shown: &mut Vec<u8>, dispute: &Dispute) -> Result<
 fn add_transfer(alloc: Global, shown: &mut Vec<u8>, transfer: &Transfer) -> Result<(), AllocError> {
     shown.extend_from_slice(b" transfer")?;
     add_amount(alloc, shown, transfer.amount, transfer.currency)?;
+    add_part(alloc, shown, b"reversed", transfer.amount_reversed)?;
     add_named_number(alloc, shown, b"destination", transfer.destination)?;
     add_named_number(alloc, shown, b"payment", transfer.payment)?;
     add_link(alloc, shown, b"charge", transfer.source)?;
     add_named_number(alloc, shown, b"txn", transfer.transaction)?;
     add_named_number(alloc, shown, b"on", transfer.available_on)?;
-    add_text(shown, b"group", &transfer.transfer_group)
+    add_text(shown, b"description", &transfer.description)?;
+    add_text(shown, b"group", &transfer.transfer_group)?;
+    add_pairs(shown, &transfer.metadata)
+}
+
+fn add_reversal(alloc: Global, shown: &mut Vec<u8>, reversal: &Reversal) -> Result<(), AllocError> {
+    shown.extend_from_slice(b" reversal")?;
+    add_amount(alloc, shown, reversal.amount, reversal.currency)?;
+    add_named_number(alloc, shown, b"transfer", reversal.transfer)?;
+    add_link(alloc, shown, b"refund", reversal.refund)?;
+    add_named_number(alloc, shown, b"txn", reversal.transaction)?;
+    add_pairs(shown, &reversal.metadata)
 }
 
 fn add_fee(alloc: Global, shown: &mut Vec<u8>, fee: &Fee) -> Result<(), AllocError> {
     shown.extend_from_slice(b" fee")?;
     add_amount(alloc, shown, fee.amount, fee.currency)?;
+    add_part(alloc, shown, b"refunded", fee.amount_refunded)?;
     add_named_number(alloc, shown, b"from", fee.account)?;
     add_named_number(alloc, shown, b"charge", fee.charge)?;
     add_named_number(alloc, shown, b"txn", fee.transaction)?;
     add_named_number(alloc, shown, b"on", fee.available_on)
+}
+
+fn add_fee_refund(
+    alloc: Global,
+    shown: &mut Vec<u8>,
+    fee_refund: &FeeRefund,
+) -> Result<(), AllocError> {
+    shown.extend_from_slice(b" fee_refund")?;
+    add_amount(alloc, shown, fee_refund.amount, fee_refund.currency)?;
+    add_named_number(alloc, shown, b"fee", fee_refund.fee)?;
+    add_named_number(alloc, shown, b"txn", fee_refund.transaction)?;
+    add_pairs(shown, &fee_refund.metadata)
 }
 
 fn add_txn(alloc: Global, shown: &mut Vec<u8>, txn: &Txn) -> Result<(), AllocError> {
@@ -358,7 +385,9 @@ fn add_item(alloc: Global, shown: &mut Vec<u8>, item: &Item) -> Result<(), Alloc
         Item::Refund(refund) => add_refund(alloc, shown, refund),
         Item::Dispute(dispute) => add_dispute(alloc, shown, dispute),
         Item::Transfer(transfer) => add_transfer(alloc, shown, transfer),
+        Item::Reversal(reversal) => add_reversal(alloc, shown, reversal),
         Item::Fee(fee) => add_fee(alloc, shown, fee),
+        Item::FeeRefund(fee_refund) => add_fee_refund(alloc, shown, fee_refund),
         Item::Txn(txn) => add_txn(alloc, shown, txn),
         Item::Event(event) => add_event(alloc, shown, event),
     }
