@@ -70,8 +70,8 @@ def given_back(rows, fee):
 
 
 def part(whole, amount, of):
-    """The part of a whole that an amount is of another, to the nearest unit, a half up."""
-    return (2 * whole * amount + of) // (2 * of)
+    """The part of a whole that an amount is of another, rounded down."""
+    return whole * amount // of
 
 
 def capturable(rows, intent):
