@@ -1,6 +1,7 @@
 #!/bin/sh
 # A marketplace with payhost over HTTP, by curl: a platform takes a payment for one seller and keeps a fee, another seller takes
-# one by itself, of which the platform has its fee, and after each step every balance is the one that was worked out beforehand.
+# one by itself, of which the platform has its fee; then ada's customer gets half back, which takes ada's part back and gives the fee's
+# back, and ben gets a transfer, of which a part is reversed. After each step every balance is the one that was worked out beforehand.
 # Wants curl; where there is none it says so and ends with 0.
 #
 #   examples/marketplace.sh
@@ -85,3 +86,32 @@ call 200 '"now":1700172800' $platform /_host/clock -d now=1700172800
 has $platform 1080 0
 has $ada 9000 0
 has $ben 3454 0
+
+# Ada's customer gets half of it back: 50.00, with half of ada's part and half of the fee. Ada gives 50.00 back and gets 5.00 of the fee:
+# 9000 - 5000 + 500; the platform 1080 - 5000 + 5000 - 500.
+call 200 '"transfer_reversal":"trr_' $platform /v1/refunds -d charge=ch_0000000000000008 -d amount=5000 \
+    -d reverse_transfer=true -d refund_application_fee=true
+call 200 '"amount_reversed":5000' $platform /v1/transfers/tr_0000000000000010
+call 200 '"amount_refunded":500' $platform /v1/application_fees/fee_0000000000000014
+has $platform 580 0
+has $ada 4500 0
+has $ben 3454 0
+
+# The rest, with all that is left of both. The processor's 3.20 stay with the platform: 580 - 5000 + 5000 - 500.
+call 200 '"amount":5000' $platform /v1/refunds -d charge=ch_0000000000000008 -d reverse_transfer=true -d refund_application_fee=true
+call 200 '"reversed":true' $platform /v1/transfers/tr_0000000000000010
+call 200 '"refunded":true' $platform /v1/application_fees/fee_0000000000000014
+call 400 charge_already_refunded $platform /v1/refunds -d charge=ch_0000000000000008
+has $platform 80 0
+has $ada 0 0
+
+# The platform transfers 0.80 to ben, which is all that it has, and takes 0.30 back.
+call 400 balance_insufficient $platform /v1/transfers -d amount=81 -d currency=usd -d destination=$ben
+transfer=$(curl -sS -u sk_test_payhost: "http://127.0.0.1:$PORT/v1/transfers" -d amount=80 -d currency=usd -d destination=$ben \
+    | sed 's/.*"id":"\(tr_[0-9]*\)".*/\1/')
+has $platform 0 0
+has $ben 3534 0
+call 200 '"object":"transfer_reversal"' $platform "/v1/transfers/$transfer/reversals" -d amount=30
+call 400 '"param":"amount"' $platform "/v1/transfers/$transfer/reversals" -d amount=51
+has $platform 30 0
+has $ben 3504 0
