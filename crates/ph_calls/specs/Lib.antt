@@ -5,6 +5,8 @@ pub mod Table
 pub mod Routes
 pub mod Intents
 pub mod Refunds
+pub mod Transfers
+pub mod Fees
 pub mod Disputes
 pub mod Clock
 pub mod Reading

@@ -16,11 +16,13 @@ use Rattle.ph_calls.specs.Accounts.{create_account}
 use Rattle.ph_calls.specs.Check.{unless_error}
 use Rattle.ph_calls.specs.Clock.{set_clock, set_clock_error}
 use Rattle.ph_calls.specs.Disputes.{send_evidence}
+use Rattle.ph_calls.specs.Fees.{refund_fee, refund_fee_error}
 use Rattle.ph_calls.specs.Intents.{authenticate_intent, cancel_intent, capture_intent, confirm_intent, create_intent, create_intent_error, update_intent}
 use Rattle.ph_calls.specs.Refunds.{create_refund, create_refund_error}
 use Rattle.ph_calls.specs.Routes.{Route, Nowhere, To, route_in}
 use Rattle.ph_calls.specs.Parameters.{given, name_of, unknown_error, with_value}
 use Rattle.ph_calls.specs.Table.{params_of, table}
+use Rattle.ph_calls.specs.Transfers.{create_transfer, create_transfer_error, reverse_transfer, reverse_transfer_error}
 
 -- the problem of a form that can't be read; the definition of a form never wants memory
 abbrev pub fault_of : FormFault → Problem
@@ -51,6 +53,12 @@ call_of account name.CreateRefund id leaves =
 call_of account name.SendEvidence id leaves = as_call call.SendEvidence (given (params_of name.SendEvidence) (send_evidence id) leaves)
 call_of account name.CloseDispute id leaves = Ok (call.CloseDispute (record { id = id }))
 call_of account name.CreateAccount id leaves = as_call call.CreateAccount (given (params_of name.CreateAccount) create_account leaves)
+call_of account name.CreateTransfer id leaves =
+    with_value (given (params_of name.CreateTransfer) create_transfer leaves) (checked create_transfer_error call.CreateTransfer)
+call_of account name.ReverseTransfer id leaves =
+    with_value (given (params_of name.ReverseTransfer) (reverse_transfer id) leaves) (checked reverse_transfer_error call.ReverseTransfer)
+call_of account name.RefundFee id leaves =
+    with_value (given (params_of name.RefundFee) (refund_fee id) leaves) (checked refund_fee_error call.RefundFee)
 call_of account (name.Retrieve kind) id leaves = Ok (call.Retrieve (record { kind = kind; id = id }))
 call_of account name.GetBalance id leaves = Ok (call.GetBalance (record {}))
 call_of account name.SetClock id leaves = with_value (given (params_of name.SetClock) set_clock leaves) (checked set_clock_error call.SetClock)

@@ -3,7 +3,7 @@ use Rattle.std.specs.Prelude.{ℕ, List, [], ◌∷◌, codes}
 use Rattle.ph_base.specs.declared.ids.Kind.TheVariants as object
 use Rattle.ph_kinds.specs.Kind.{Amount, Number, Currency, Truth, Text, Id, Method, Metadata, AccountType, CaptureMethod, CancellationReason, RefundReason, Authentication}
 use Rattle.ph_calls.specs.declared.row.Name.{Name}
-use Rattle.ph_calls.specs.declared.row.Name.TheVariants.{CreateIntent, UpdateIntent, ConfirmIntent, CaptureIntent, CancelIntent, CreateRefund, SendEvidence, CloseDispute, CreateAccount, Retrieve, GetBalance, SetClock, Authenticate}
+use Rattle.ph_calls.specs.declared.row.Name.TheVariants.{CreateIntent, UpdateIntent, ConfirmIntent, CaptureIntent, CancelIntent, CreateRefund, SendEvidence, CloseDispute, CreateAccount, CreateTransfer, ReverseTransfer, RefundFee, Retrieve, GetBalance, SetClock, Authenticate}
 use Rattle.ph_calls.specs.declared.row.Path.{Path}
 use Rattle.ph_calls.specs.declared.row.Path.TheVariants.{Plain, WithId}
 use Rattle.ph_calls.specs.declared.row.TableRow.{TableRow}
@@ -43,8 +43,11 @@ table =
     post (Between (codes "/v1/disputes/") (codes "/close")) CloseDispute ∷
     post (One (codes "/v1/accounts")) CreateAccount ∷
     get (Between (codes "/v1/accounts/") []) (Retrieve object.Account) ∷
+    post (One (codes "/v1/transfers")) CreateTransfer ∷
     get (Between (codes "/v1/transfers/") []) (Retrieve object.Transfer) ∷
+    post (Between (codes "/v1/transfers/") (codes "/reversals")) ReverseTransfer ∷
     get (Between (codes "/v1/application_fees/") []) (Retrieve object.Fee) ∷
+    post (Between (codes "/v1/application_fees/") (codes "/refunds")) RefundFee ∷
     get (One (codes "/v1/balance")) GetBalance ∷
     get (Between (codes "/v1/balance_transactions/") []) (Retrieve object.Txn) ∷
     post (One (codes "/_host/clock")) SetClock ∷
@@ -94,7 +97,9 @@ params_of CreateRefund =
     May (codes "payment_intent") Id ∷
     May (codes "amount") Amount ∷
     May (codes "reason") RefundReason ∷
-    May (codes "metadata") Metadata ∷ []
+    May (codes "metadata") Metadata ∷
+    May (codes "reverse_transfer") Truth ∷
+    May (codes "refund_application_fee") Truth ∷ []
 params_of SendEvidence =
     Must (codes "evidence[uncategorized_text]") (Text 20000) ∷
     Ignored (codes "submit") ∷ []
@@ -110,6 +115,20 @@ params_of CreateAccount =
     Ignored (codes "tos_acceptance") ∷
     Ignored (codes "controller") ∷
     Ignored (codes "settings") ∷ []
+params_of CreateTransfer =
+    Must (codes "amount") Amount ∷
+    Must (codes "currency") Currency ∷
+    Must (codes "destination") Id ∷
+    May (codes "source_transaction") Id ∷
+    May (codes "description") (Text 1000) ∷
+    May (codes "metadata") Metadata ∷
+    May (codes "transfer_group") (Text 255) ∷ []
+params_of ReverseTransfer =
+    May (codes "amount") Amount ∷
+    May (codes "metadata") Metadata ∷ []
+params_of RefundFee =
+    May (codes "amount") Amount ∷
+    May (codes "metadata") Metadata ∷ []
 params_of (Retrieve kind) = []
 params_of GetBalance = []
 params_of SetClock =

@@ -85,6 +85,10 @@ pub struct CreateRefund {
     pub amount: Option<Amount>,
     pub reason: Option<RefundReason>,
     pub metadata: Option<Meta>,
+    /// Whether its part of the charge's transfer is taken back.
+    pub reverse_transfer: bool,
+    /// Whether its part of the charge's application fee is given back.
+    pub refund_application_fee: bool,
 }
 
 /// `POST /v1/disputes/{id}`: evidence against a dispute.
@@ -110,6 +114,44 @@ pub struct CreateAccount {
     pub sort: Option<AccountType>,
     /// At most 255 characters.
     pub email: Option<Bytes>,
+    pub metadata: Option<Meta>,
+}
+
+/// `POST /v1/transfers`: what the platform gives to a connected account.
+#[derive(Drop)]
+pub struct CreateTransfer {
+    /// In minor units of the currency, not 0.
+    pub amount: Amount,
+    pub currency: Currency,
+    /// The connected account, read as an id when the call is carried out.
+    pub destination: Bytes,
+    /// The charge that it is drawn on, read as an id when the call is carried out; the platform's available balance where
+    /// none is named.
+    pub source_transaction: Option<Bytes>,
+    /// At most 1,000 characters.
+    pub description: Option<Bytes>,
+    pub metadata: Option<Meta>,
+    /// At most 255 characters.
+    pub transfer_group: Option<Bytes>,
+}
+
+/// `POST /v1/transfers/{id}/reversals`: the transfer, or a part of it, is taken back.
+#[derive(Drop)]
+pub struct ReverseTransfer {
+    /// The segment of the path, which is read as an id when the call is carried out.
+    pub id: Bytes,
+    /// In minor units of the transfer's currency, not 0; all that is left of it where none is named.
+    pub amount: Option<Amount>,
+    pub metadata: Option<Meta>,
+}
+
+/// `POST /v1/application_fees/{id}/refunds`: the application fee, or a part of it, is given back.
+#[derive(Drop)]
+pub struct RefundFee {
+    /// The segment of the path, which is read as an id when the call is carried out.
+    pub id: Bytes,
+    /// In minor units of the fee's currency, not 0; all that is left of it where none is named.
+    pub amount: Option<Amount>,
     pub metadata: Option<Meta>,
 }
 
@@ -152,6 +194,9 @@ pub enum Call {
     SendEvidence(SendEvidence),
     CloseDispute(CloseDispute),
     CreateAccount(CreateAccount),
+    CreateTransfer(CreateTransfer),
+    ReverseTransfer(ReverseTransfer),
+    RefundFee(RefundFee),
     Retrieve(Retrieve),
     GetBalance(GetBalance),
     SetClock(SetClock),

@@ -3,9 +3,11 @@
 
 mod accounts;
 mod call;
+mod checks;
 mod clock;
 mod disputes;
 mod errors;
+mod fees;
 mod intents;
 mod laws;
 mod names;
@@ -15,10 +17,12 @@ mod refunds;
 mod route;
 mod row;
 mod table;
+mod transfers;
 
 pub use call::{
     Authenticate, Call, CancelIntent, CaptureIntent, CloseDispute, ConfirmIntent, CreateAccount,
-    CreateIntent, CreateRefund, GetBalance, Retrieve, SendEvidence, SetClock, UpdateIntent,
+    CreateIntent, CreateRefund, CreateTransfer, GetBalance, RefundFee, Retrieve, ReverseTransfer,
+    SendEvidence, SetClock, UpdateIntent,
 };
 pub use intents::is_fee_above;
 pub use laws::{readings_are_fit, readings_are_refused};

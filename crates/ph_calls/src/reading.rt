@@ -5,9 +5,11 @@ ghost use Rattle.ph_calls.specs.Reading.{call_of, form_of, reading_by, reading_o
 
 use crate::accounts::create_account;
 use crate::call::{Call, CloseDispute, GetBalance, Retrieve};
+use crate::checks::zero_error;
 use crate::clock::{set_clock, set_clock_error};
 use crate::disputes::send_evidence;
 use crate::errors::fault_error;
+use crate::fees::refund_fee;
 use crate::intents::{
     authenticate_intent, cancel_intent, capture_intent, confirm_intent, create_intent,
     create_intent_error, update_intent,
@@ -17,6 +19,7 @@ use crate::refunds::{create_refund, create_refund_error};
 use crate::route::find_route;
 use crate::row::Name;
 use crate::table::names_of;
+use crate::transfers::{create_transfer, reverse_transfer};
 use ph_base::Bytes;
 use ph_errors::{ApiError, Refusal};
 use ph_form::{Form, FormFault, read_form};
@@ -73,6 +76,21 @@ fn make_call(
             id: Bytes::from_slice(alloc, id)?,
         })),
         Name::CreateAccount => Ok(Call::CreateAccount(create_account(alloc, form)?)),
+        Name::CreateTransfer => {
+            let call = create_transfer(alloc, form)?;
+            let error = zero_error(alloc, Some(call.amount))?;
+            unless_error(error, Call::CreateTransfer(call))
+        }
+        Name::ReverseTransfer => {
+            let call = reverse_transfer(alloc, id, form)?;
+            let error = zero_error(alloc, call.amount)?;
+            unless_error(error, Call::ReverseTransfer(call))
+        }
+        Name::RefundFee => {
+            let call = refund_fee(alloc, id, form)?;
+            let error = zero_error(alloc, call.amount)?;
+            unless_error(error, Call::RefundFee(call))
+        }
         Name::Retrieve(kind) => Ok(Call::Retrieve(Retrieve {
             kind,
             id: Bytes::from_slice(alloc, id)?,

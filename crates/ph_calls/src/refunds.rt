@@ -2,19 +2,19 @@
 ghost use Rattle.std.specs.Prelude.{◌≡◌, IfErr, IfOk, Ok};
 ghost use Rattle.ph_calls.specs.Check.{Refuses};
 ghost use Rattle.ph_calls.specs.Parameters.{given};
-ghost use Rattle.ph_calls.specs.Refunds.{create_refund, create_refund_error, is_zero, names_one};
+ghost use Rattle.ph_calls.specs.Refunds.{create_refund, create_refund_error, names_one};
 ghost use Rattle.ph_calls.specs.Table.{params_of};
 
 use crate::call::CreateRefund;
-use crate::params::{amount, id, metadata, refund_reason};
+use crate::checks::is_zero;
+use crate::params::{amount, id, metadata, refund_reason, truth};
 use crate::row::Name;
 use ph_base::NoMemory;
 use ph_errors::{ApiError, Refusal};
 use ph_form::Form;
-use ph_money::Amount;
 use std::alloc::Global;
 
-/// The refund of a form.
+/// The refund of a form; it takes nothing of a transfer back, and gives nothing of a fee back, where nothing is said of that.
 #[tactic(auto, unfolding(crate::specs::Parameters::given))]
 pub fn create_refund(alloc: Global, form: &Form) -> Result<CreateRefund, Refusal>
     ensures call { IfOk result (λ call. given (params_of Name.CreateRefund) create_refund form.now ≡ Ok call) }
@@ -26,6 +26,8 @@ pub fn create_refund(alloc: Global, form: &Form) -> Result<CreateRefund, Refusal
         amount: amount(alloc, form, b"amount")?,
         reason: refund_reason(alloc, form, b"reason")?,
         metadata: metadata(alloc, form, b"metadata")?,
+        reverse_transfer: truth(alloc, form, b"reverse_transfer")?.unwrap_or(false),
+        refund_application_fee: truth(alloc, form, b"refund_application_fee")?.unwrap_or(false),
     })
 }
 
@@ -34,16 +36,6 @@ fn names_one(call: &CreateRefund) -> bool
     ensures { result ≡ names_one call.now }
 {
     call.charge.is_some() != call.payment_intent.is_some()
-}
-
-/// Whether an amount is named, and it is 0.
-fn is_zero(amount: Option<Amount>) -> bool
-    ensures { result ≡ is_zero amount }
-{
-    match amount {
-        Some(amount) => amount.units() == 0,
-        None => false,
-    }
 }
 
 /// The error of the first further check that fails: both or none of a charge and a payment intent, then an amount of 0.

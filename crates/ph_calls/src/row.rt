@@ -14,6 +14,9 @@ pub enum Name {
     SendEvidence,
     CloseDispute,
     CreateAccount,
+    CreateTransfer,
+    ReverseTransfer,
+    RefundFee,
     /// It shows the object of this kind whose id stands in the path.
     Retrieve(Kind),
     GetBalance,

@@ -24,7 +24,7 @@ macro_rules! row {
     };
 }
 
-static TABLE: [TableRow; 20] = [
+static TABLE: [TableRow; 23] = [
     row!(b"POST" b"/v1/payment_intents" => Name::CreateIntent),
     row!(b"GET" b"/v1/payment_intents/" id b"" => Name::Retrieve(Kind::Intent)),
     row!(b"POST" b"/v1/payment_intents/" id b"" => Name::UpdateIntent),
@@ -39,8 +39,11 @@ static TABLE: [TableRow; 20] = [
     row!(b"POST" b"/v1/disputes/" id b"/close" => Name::CloseDispute),
     row!(b"POST" b"/v1/accounts" => Name::CreateAccount),
     row!(b"GET" b"/v1/accounts/" id b"" => Name::Retrieve(Kind::Account)),
+    row!(b"POST" b"/v1/transfers" => Name::CreateTransfer),
     row!(b"GET" b"/v1/transfers/" id b"" => Name::Retrieve(Kind::Transfer)),
+    row!(b"POST" b"/v1/transfers/" id b"/reversals" => Name::ReverseTransfer),
     row!(b"GET" b"/v1/application_fees/" id b"" => Name::Retrieve(Kind::Fee)),
+    row!(b"POST" b"/v1/application_fees/" id b"/refunds" => Name::RefundFee),
     row!(b"GET" b"/v1/balance" => Name::GetBalance),
     row!(b"GET" b"/v1/balance_transactions/" id b"" => Name::Retrieve(Kind::Txn)),
     row!(b"POST" b"/_host/clock" => Name::SetClock),
@@ -121,9 +124,21 @@ pub fn names_of(call: Name) -> &'static [&'static [u8]]
             b"amount",
             b"reason",
             b"metadata",
+            b"reverse_transfer",
+            b"refund_application_fee",
         ],
         Name::SendEvidence => &[b"evidence[uncategorized_text]", b"submit"],
         Name::CreateAccount => account_names(),
+        Name::CreateTransfer => &[
+            b"amount",
+            b"currency",
+            b"destination",
+            b"source_transaction",
+            b"description",
+            b"metadata",
+            b"transfer_group",
+        ],
+        Name::ReverseTransfer | Name::RefundFee => &[b"amount", b"metadata"],
         Name::SetClock => &[b"now"],
         Name::Authenticate => &[b"outcome"],
         Name::CloseDispute | Name::Retrieve(_) | Name::GetBalance => &[],
