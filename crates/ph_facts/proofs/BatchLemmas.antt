@@ -1,5 +1,5 @@
 -- The rows of a batch that may follow those of a view, as rows are added to it.
-use Rattle.std.proofs.Common.{◌≡◌, ℕ, ◌+◌, ◌^◌, ◌<◌, true, false, List, [], ◌∷◌, ◌++◌, Some, length, refl, arith}
+use Rattle.std.proofs.Common.{◌≡◌, ℕ, ◌+◌, ◌^◌, ◌<◌, false, [], ◌∷◌, ◌++◌, Some, length, refl, arith}
 use Rattle.std.proofs.lemmas.List.{length-append}
 use Rattle.ph_items.specs.declared.items.Item.{Item}
 use Rattle.ph_items.specs.declared.event_kinds.EventKind.{EventKind}

@@ -1,6 +1,6 @@
 -- What calls may do, by the rows, and the errors that refuse them.
 use Rattle.std.specs.Prelude.{option_and_then, option_map}
-use Rattle.std.proofs.Common.{◌≡◌, ℕ, ◌+◌, ◌≤◌, true, List, [], ◌∷◌, ◌++◌, Option, Some, None, length, refl, sym, ap, ◌∙◌, subst, arith}
+use Rattle.std.proofs.Common.{◌≡◌, ℕ, ◌≤◌, true, List, [], ◌∷◌, ◌++◌, Option, Some, None, refl, sym, ap, ◌∙◌, subst, arith}
 use Rattle.std.specs.List.{cons_option}
 use Rattle.std.proofs.lemmas.List.{append-nil}
 use Rattle.ph_errors.specs.Table.{Problem, InvalidValue, NoSuchObject, ParameterMissing, AmountTooSmall, UnexpectedState, ChargeNotCaptured, ChargeAlreadyRefunded, ChargeDisputed, DisputeClosed, PlatformOnly, error_of}

@@ -72,7 +72,9 @@ Leaves rows object version (item.Charge charge) = IsApart rows object version
 Leaves rows object version (item.Refund refund) = Unit {0}
 Leaves rows object version (item.Dispute dispute) = Unit {0}
 Leaves rows object version (item.Transfer transfer) = Unit {0}
+Leaves rows object version (item.Reversal reversal) = Unit {0}
 Leaves rows object version (item.Fee fee) = Unit {0}
+Leaves rows object version (item.FeeRefund fee_refund) = Unit {0}
 Leaves rows object version (item.Txn txn) = Unit {0}
 Leaves rows object version (item.Event event) = Unit {0}
 
@@ -99,7 +101,9 @@ charge_is_apart rows object version (item.Charge charge) k h = h
 charge_is_apart rows object version (item.Refund refund) k h = absurd (cc)
 charge_is_apart rows object version (item.Dispute dispute) k h = absurd (cc)
 charge_is_apart rows object version (item.Transfer transfer) k h = absurd (cc)
+charge_is_apart rows object version (item.Reversal reversal) k h = absurd (cc)
 charge_is_apart rows object version (item.Fee fee) k h = absurd (cc)
+charge_is_apart rows object version (item.FeeRefund fee_refund) k h = absurd (cc)
 charge_is_apart rows object version (item.Txn txn) k h = absurd (cc)
 charge_is_apart rows object version (item.Event event) k h = absurd (cc)
 
@@ -112,7 +116,9 @@ kind_of_charge (item.Charge version) charge e = (let same : version ≡ charge =
 kind_of_charge (item.Refund refund) charge e = absurd (cc)
 kind_of_charge (item.Dispute dispute) charge e = absurd (cc)
 kind_of_charge (item.Transfer transfer) charge e = absurd (cc)
+kind_of_charge (item.Reversal reversal) charge e = absurd (cc)
 kind_of_charge (item.Fee fee) charge e = absurd (cc)
+kind_of_charge (item.FeeRefund fee_refund) charge e = absurd (cc)
 kind_of_charge (item.Txn txn) charge e = absurd (cc)
 kind_of_charge (item.Event event) charge e = absurd (cc)
 
@@ -172,7 +178,9 @@ IsBeside rows object (item.Charge charge) = IsLoose rows object
 IsBeside rows object (item.Refund refund) = Unit {0}
 IsBeside rows object (item.Dispute dispute) = Unit {0}
 IsBeside rows object (item.Transfer transfer) = Unit {0}
+IsBeside rows object (item.Reversal reversal) = Unit {0}
 IsBeside rows object (item.Fee fee) = Unit {0}
+IsBeside rows object (item.FeeRefund fee_refund) = Unit {0}
 IsBeside rows object (item.Txn txn) = Unit {0}
 IsBeside rows object (item.Event event) = Unit {0}
 
@@ -191,7 +199,9 @@ beside_leaves rows object version (item.Charge charge) h = h object
 beside_leaves rows object version (item.Refund refund) h = tt
 beside_leaves rows object version (item.Dispute dispute) h = tt
 beside_leaves rows object version (item.Transfer transfer) h = tt
+beside_leaves rows object version (item.Reversal reversal) h = tt
 beside_leaves rows object version (item.Fee fee) h = tt
+beside_leaves rows object version (item.FeeRefund fee_refund) h = tt
 beside_leaves rows object version (item.Txn txn) h = tt
 beside_leaves rows object version (item.Event event) h = tt
 

@@ -10,5 +10,7 @@ pub mod OrderLemmas
 pub mod OriginLemmas
 pub mod PresentLemmas
 pub mod SoundLemmas
+pub mod SpokenLemmas
 pub mod TallyLemmas
 pub mod UnderwayLemmas
+pub mod VersionLemmas

@@ -1,7 +1,7 @@
 -- Rows in order, as rows are added.
-use Rattle.std.proofs.Common.{◌≡◌, ℕ, zero, suc, ◌+◌, ◌-◌, ◌^◌, ◌≤◌, ◌<◌, ◌⊎◌, inl, inr, Bool, true, false, eqb, List, [], ◌∷◌, ◌++◌, Option, None, Some, length, sym, refl, ap, ◌∙◌, subst, arith}
+use Rattle.std.proofs.Common.{◌≡◌, ℕ, ◌+◌, ◌-◌, ◌^◌, ◌≤◌, ◌<◌, inl, inr, true, List, [], ◌∷◌, ◌++◌, Option, None, Some, length, sym, refl, ◌∙◌, subst, arith}
 use Rattle.std.specs.Prelude.{slice_get}
-use Rattle.std.specs.List.{fold, list_all}
+use Rattle.std.specs.List.{list_all}
 use Rattle.std.specs.Str.{is_utf8}
 use Rattle.std.proofs.lemmas.List.{length-append, append-nil, append_assoc}
 use Rattle.ph_items.specs.declared.items.Item.{Item}
@@ -11,9 +11,9 @@ use Rattle.ph_items.specs.Clocks.{clock_limit}
 use Rattle.ph_items.specs.Kinds.{kind_of}
 use Rattle.ph_items.specs.Weights.{texts_of}
 use Rattle.ph_rows.specs.declared.rows.Row.{Row}
-use Rattle.ph_rows.specs.Rows.{row_at, later_version, latest_of}
+use Rattle.ph_rows.specs.Rows.{row_at, latest_of}
 use Rattle.ph_rows.specs.Views.{ViewState}
-use Rattle.ph_rows.proofs.RowLemmas.{found_among, is_row_at, row_at-before, row_at-more, row_at-next, row_at_within, slice_get-behind}
+use Rattle.ph_rows.proofs.RowLemmas.{found_among, is_row_at, row_at-before, row_at-more, row_at_within, slice_get-behind}
 use Rattle.ph_facts.specs.Order.{AllMayFollow, AmountsFit, HasBegun, HasSubject, IsInOrder, MayFollow, with_next}
 use Rattle.ph_facts.specs.Origins.{HasOrigins, IsOrigin, is_made_once, origins_of}
 use Rattle.ph_facts.proofs.OriginLemmas.{has_begun_origin, have_begun-before}

@@ -13,6 +13,9 @@ laws_empty : KeepLaws []
 laws_empty = record {
   captured = λ object row amount e said. absurd (cc);
   refunded = λ object row amount e said. absurd (cc);
+  transferred = λ object row amount e said. absurd (cc);
+  reversed = λ object row amount e said. absurd (cc);
+  given_back = λ object row amount e said. absurd (cc);
   moved = λ object row amount e said. absurd (cc);
   held = λ object row intent e is waits. absurd (cc);
 }

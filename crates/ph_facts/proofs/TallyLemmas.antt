@@ -1,10 +1,8 @@
 -- Amounts of objects, as rows are added: one more row, rows of other objects, a further version.
 use Rattle.std.specs.Prelude.{slice_get, is_some, ◌==◌, ◌&&◌, ◌||◌}
-use Rattle.std.proofs.Common.{◌≡◌, ℕ, zero, suc, ◌+◌, ◌-◌, ◌≤◌, ◌<◌, ◌⊎◌, inl, inr, Bool, true, false, eqb, List, [], ◌∷◌, ◌++◌, Option, None, Some, length, refl, sym, ap, ◌∙◌, subst, arith}
+use Rattle.std.proofs.Common.{◌≡◌, ℕ, zero, suc, ◌+◌, ◌-◌, ◌≤◌, ◌<◌, inl, inr, Bool, true, false, eqb, List, [], ◌∷◌, ◌++◌, Option, None, Some, length, refl, sym, ap, ◌∙◌, subst, arith}
 use Rattle.std.specs.List.{list_any}
 use Rattle.std.proofs.lemmas.Bool.{cond-false, eq-eqb, eqb-false, eqb-true, false≢true, ne_eqb}
-use Rattle.std.proofs.lemmas.List.{append-nil, append_assoc}
-use Rattle.ph_items.specs.declared.items.Item.{Item}
 use Rattle.ph_rows.specs.declared.rows.Row.{Row}
 use Rattle.ph_rows.specs.Rows.{latest_of}
 use Rattle.ph_rows.specs.Views.{ViewState}
@@ -24,8 +22,8 @@ pub sum_append : {A : Type 0} (tally : Tally A) (object : ℕ) (rows more : List
     → sum_for tally object (rows ++ more) ≡ tally.plus (sum_for tally object rows) (sum_for tally object more)
 sum_append tally object [] more sum = sym (sum.front (sum_for tally object more))
 sum_append tally object (row ∷ rows) more sum =
-    ap (tally.plus (given tally.nothing object (tally.adds row.item))) (sum_append tally object rows more sum)
-    ∙ sym (sum.grouped (given tally.nothing object (tally.adds row.item)) (sum_for tally object rows) (sum_for tally object more))
+    ap (tally.plus (given tally.nothing object (tally.adds row))) (sum_append tally object rows more sum)
+    ∙ sym (sum.grouped (given tally.nothing object (tally.adds row)) (sum_for tally object rows) (sum_for tally object more))
 
 -- a part goes to an object
 abbrev pub goes_to : {A : Type 0} → ℕ → Option (Addition A) → Bool
@@ -34,7 +32,7 @@ goes_to object (Some part) = part.object == object
 
 -- a row has to do with the amount of an object: it adds to it, or is a version of the object that says it
 abbrev pub touches : {A : Type 0} → Tally A → ℕ → Row → Bool
-touches tally object row = goes_to object (tally.adds row.item) || (is_some (tally.said row.item) && row.object == object)
+touches tally object row = goes_to object (tally.adds row) || (is_some (tally.said row.item) && row.object == object)
 
 -- a part that goes elsewhere gives nothing
 given_elsewhere : {A : Type 0} (nothing : A) (object : ℕ) (part : Option (Addition A)) → goes_to object part ≡ false
@@ -50,9 +48,16 @@ sum_apart tally object (row ∷ rows) sum apart =
     let here = first_fails (touches tally object row) (list_any (touches tally object) rows) apart in
     let there = second_fails (touches tally object row) (list_any (touches tally object) rows) apart in
     ap (λ first. tally.plus first (sum_for tally object rows))
-    (given_elsewhere tally.nothing object (tally.adds row.item)
-    (first_fails (goes_to object (tally.adds row.item)) (is_some (tally.said row.item) && row.object == object) here))
+    (given_elsewhere tally.nothing object (tally.adds row)
+    (first_fails (goes_to object (tally.adds row)) (is_some (tally.said row.item) && row.object == object) here))
     ∙ sum.front (sum_for tally object rows) ∙ sum_apart tally object rows sum there
+
+-- the amount of an object is the same with rows that have nothing to do with it
+pub sum_beside : {A : Type 0} (tally : Tally A) (object : ℕ) (rows more : List Row) → IsSum A tally
+    → list_any (touches tally object) more ≡ false → sum_for tally object (rows ++ more) ≡ sum_for tally object rows
+sum_beside tally object rows more sum apart =
+    sum_append tally object rows more sum
+    ∙ ap (tally.plus (sum_for tally object rows)) (sum_apart tally object more sum apart) ∙ sum.back (sum_for tally object rows)
 
 -- of two tests that don't both pass, the first where the second does
 first_of_both : (a b : Bool) → (a && b) ≡ false → b ≡ true → a ≡ false
@@ -60,7 +65,7 @@ first_of_both true b e is = absurd (false≢true (sym e ∙ is))
 first_of_both false b e is = refl
 
 -- what says nothing says no amount
-says_none : {A : Type 0} (said : Option A) (amount : A) → is_some said ≡ false → said ≡ Some amount → ⊥
+pub says_none : {A : Type 0} (said : Option A) (amount : A) → is_some said ≡ false → said ≡ Some amount → ⊥
 says_none None amount e is = absurd (cc)
 says_none (Some said) amount e is = false≢true (sym e)
 
@@ -73,7 +78,7 @@ none_says tally object (x ∷ rows) zero row amount apart e mine said =
     let same : x ≡ row = cc in
     let here : touches tally object row ≡ false =
     subst (λ (r : Row). touches tally object r ≡ false) same (first_fails (touches tally object x) (list_any (touches tally object) rows) apart) in
-    let version = second_fails (goes_to object (tally.adds row.item)) (is_some (tally.said row.item) && row.object == object) here in
+    let version = second_fails (goes_to object (tally.adds row)) (is_some (tally.said row.item) && row.object == object) here in
     says_none (tally.said row.item) amount
     (first_of_both (is_some (tally.said row.item)) (row.object == object) version (eq-eqb row.object object mine)) said
 none_says tally object (x ∷ rows) (suc i) row amount apart e mine said =
@@ -84,9 +89,7 @@ pub sum_stays : {A : Type 0} (tally : Tally A) (object : ℕ) (rows more : List 
     → list_any (touches tally object) more ≡ false → SaysSum tally object rows → SaysSum tally object (rows ++ more)
 sum_stays tally object rows more sum apart says row amount e said =
     elim (found_among object (latest_of object rows) more row (sym (latest_from object None rows more) ∙ e)) [
-      | inl old ↦ says row amount old said ∙ sym (sum.back (sum_for tally object rows))
-          ∙ ap (tally.plus (sum_for tally object rows)) (sym (sum_apart tally object more sum apart))
-          ∙ sym (sum_append tally object rows more sum)
+      | inl old ↦ says row amount old said ∙ sym (sum_beside tally object rows more sum apart)
       | inr new ↦ absurd (none_says tally object more new.0 row amount apart new.1 new.2 said)
     ]
 
@@ -118,23 +121,34 @@ sums_of_one tally rows more object sum says mine apart other = at (eqb other obj
 
 -- a row has to do with amounts: it adds to one, or says one
 abbrev pub speaks : {A : Type 0} → Tally A → Row → Bool
-speaks tally row = is_some (tally.adds row.item) || is_some (tally.said row.item)
+speaks tally row = is_some (tally.adds row) || is_some (tally.said row.item)
 
 -- what adds nothing goes to no object
 goes_nowhere : {A : Type 0} (object : ℕ) (part : Option (Addition A)) → is_some part ≡ false → goes_to object part ≡ false
 goes_nowhere object None e = refl
 goes_nowhere object (Some part) e = absurd (false≢true (sym e))
 
--- rows that have to do with no amounts have nothing to do with any object's
+-- a row that has to do with no amounts has nothing to do with any object's
+pub touches_not : {A : Type 0} (tally : Tally A) (object : ℕ) (row : Row) → speaks tally row ≡ false → touches tally object row ≡ false
+touches_not tally object row quiet =
+    both_fail (goes_to object (tally.adds row)) (is_some (tally.said row.item) && row.object == object)
+    (goes_nowhere object (tally.adds row) (first_fails (is_some (tally.adds row)) (is_some (tally.said row.item)) quiet))
+    (ap (λ (b : Bool). b && row.object == object) (second_fails (is_some (tally.adds row)) (is_some (tally.said row.item)) quiet))
+
+-- it gives nothing to it
+pub gives_nothing : {A : Type 0} (tally : Tally A) (object : ℕ) (row : Row) → speaks tally row ≡ false
+    → given tally.nothing object (tally.adds row) ≡ tally.nothing
+gives_nothing tally object row quiet =
+    given_elsewhere tally.nothing object (tally.adds row)
+    (goes_nowhere object (tally.adds row) (first_fails (is_some (tally.adds row)) (is_some (tally.said row.item)) quiet))
+
+-- nor have rows that have to do with none
 pub touch_none : {A : Type 0} (tally : Tally A) (object : ℕ) (more : List Row) → list_any (speaks tally) more ≡ false
     → list_any (touches tally object) more ≡ false
 touch_none tally object [] none = refl
 touch_none tally object (row ∷ more) none =
-    let here = first_fails (speaks tally row) (list_any (speaks tally) more) none in
     both_fail (touches tally object row) (list_any (touches tally object) more)
-    (both_fail (goes_to object (tally.adds row.item)) (is_some (tally.said row.item) && row.object == object)
-    (goes_nowhere object (tally.adds row.item) (first_fails (is_some (tally.adds row.item)) (is_some (tally.said row.item)) here))
-    (ap (λ (b : Bool). b && row.object == object) (second_fails (is_some (tally.adds row.item)) (is_some (tally.said row.item)) here)))
+    (touches_not tally object row (first_fails (speaks tally row) (list_any (speaks tally) more) none))
     (touch_none tally object more (second_fails (speaks tally row) (list_any (speaks tally) more) none))
 
 -- all objects say their amounts still with rows that have to do with none
@@ -142,14 +156,14 @@ pub sums_stay : {A : Type 0} (tally : Tally A) (rows more : List Row) → IsSum 
     → SaySums tally rows → SaySums tally (rows ++ more)
 sums_stay tally rows more sum none says object = sum_stays tally object rows more sum (touch_none tally object more none) (says object)
 
--- what an item adds, it adds to an object that it names, or to none that is later than the rows where those have begun
+-- what a row adds, it adds to an object that its item names, or to none that is later than the rows where those have begun
 abbrev pub AddsToNamed : {A : Type 0} → Tally A → Type 0
-AddsToNamed {A} tally = (rows : List Row) (o : Item) (part : Addition A) → tally.adds o ≡ Some part → HasOrigins rows (origins_of o)
-    → part.object ≤ length rows
+AddsToNamed {A} tally = (rows : List Row) (row : Row) (part : Addition A) → tally.adds row ≡ Some part
+    → HasOrigins rows (origins_of row.item) → part.object ≤ length rows
 
 -- rows of which none adds anything to an object
 sum_of_none : {A : Type 0} (tally : Tally A) (object : ℕ) (rows : List Row) → IsSum A tally
-    → ((i : ℕ) (row : Row) → slice_get rows i ≡ Some row → given tally.nothing object (tally.adds row.item) ≡ tally.nothing)
+    → ((i : ℕ) (row : Row) → slice_get rows i ≡ Some row → given tally.nothing object (tally.adds row) ≡ tally.nothing)
     → sum_for tally object rows ≡ tally.nothing
 sum_of_none tally object [] sum none = refl
 sum_of_none tally object (row ∷ rows) sum none =
@@ -160,7 +174,7 @@ sum_of_none tally object (row ∷ rows) sum none =
 pub sum_later : {A : Type 0} (tally : Tally A) (state : ViewState) (object : ℕ) → IsSum A tally → AddsToNamed tally
     → IsInOrder state → length state.rows < object → sum_for tally object state.rows ≡ tally.nothing
 sum_later {A} tally state object sum named order later =
-    sum_of_none tally object state.rows sum (λ i row e. given_later (tally.adds row.item) (λ part is. named state.rows row.item part is (there i row e)))
+    sum_of_none tally object state.rows sum (λ i row e. given_later (tally.adds row) (λ part is. named state.rows row part is (there i row e)))
   where
     given_later : (part : Option (Addition A)) → ((some : Addition A) → part ≡ Some some → some.object ≤ length state.rows)
         → given tally.nothing object part ≡ tally.nothing

@@ -68,7 +68,7 @@ abbrev pub transferred : Tally ℕ
 transferred = record {
   nothing = 0;
   plus = λ first second. first + second;
-  adds = λ row. if is_first row then option_and_then drawn_by (transfer_in row.item) else None;
+  adds = λ row. option_and_then (λ (transfer : Transfer). if is_first row then drawn_by transfer else None) (transfer_in row.item);
   said = λ item. option_map (λ (charge : Charge). charge.amount_transferred) (charge_in item);
 }
 
