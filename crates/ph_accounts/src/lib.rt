@@ -1,4 +1,4 @@
-//! Connected accounts: how one is made, and which account a request is of.
+//! Connected accounts: how one is made, and which account a text names.
 #![tactic(auto)]
 
 mod creation;
@@ -7,4 +7,4 @@ mod naming;
 
 pub use creation::create;
 pub use laws::create_keeps_sound;
-pub use naming::account_of;
+pub use naming::{account_of, connected_named};

@@ -2,5 +2,6 @@ pub mod Approvals
 pub mod Captures
 pub mod Charges
 pub mod Laws
+pub mod Payments
 pub mod Splits
 pub mod Told

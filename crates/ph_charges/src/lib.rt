@@ -6,10 +6,12 @@ mod captures;
 mod charges;
 mod laws;
 mod moments;
+mod payments;
 mod splits;
 mod told;
 
 pub use approvals::{approve, decline};
 pub use captures::{capture, fee_or};
 pub use laws::splits_are_whole;
+pub use payments::payment_given;
 pub use told::tell_split;

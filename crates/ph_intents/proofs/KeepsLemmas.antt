@@ -4,6 +4,7 @@ use Rattle.std.proofs.lemmas.Bool.{cond_both}
 use Rattle.std.specs.Option.{is_some, option_or}
 use Rattle.ph_base.specs.declared.acquirer.Method.TheVariants as method
 use Rattle.ph_facts.specs.Outcomes.{Outcome, Refuses, Adds}
+use Rattle.ph_accounts.specs.Naming.{connected_named}
 use Rattle.ph_calls.specs.declared.call.CreateIntent.{CreateIntent}
 use Rattle.ph_calls.specs.declared.call.UpdateIntent.{UpdateIntent}
 use Rattle.ph_errors.specs.Table.{error_of, AmountTooSmall}
@@ -29,7 +30,7 @@ use Rattle.ph_intents.specs.Authenticate.{authenticate_of, authenticate_outcome,
 use Rattle.ph_intents.specs.Cancel.{cancel_of, cancel_outcome, canceled_intent}
 use Rattle.ph_intents.specs.Confirm.{confirm_of, confirm_with, confirm_outcome, paying_intent}
 use Rattle.ph_intents.specs.Create.{new_intent, first_status, create_outcome, create_by, create_confirmed_outcome, create_to}
-use Rattle.ph_intents.specs.Destinations.{connected_named, destination_of, to_found, with_destination}
+use Rattle.ph_intents.specs.Destinations.{destination_of, to_found, with_destination}
 use Rattle.ph_intents.specs.Fees.{is_wrong_fee}
 use Rattle.ph_intents.specs.Keeps.{AreUtf8, KeepsRows, KeepsSound, batch_after, create_texts, update_texts, confirm_texts, no_texts}
 use Rattle.ph_kinds.specs.Kept.{first_metadata, named_texts}

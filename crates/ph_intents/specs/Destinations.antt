@@ -1,20 +1,10 @@
 -- The destination of a payment intent: the connected account to which what is captured goes.
-use Rattle.std.specs.Prelude.{ℕ, ◌==◌, if◌then◌else◌, List, Option, None, Some, Result, Ok, Err, option_and_then, codes}
-use Rattle.ph_base.specs.declared.ids.Kind.TheVariants as kind
+use Rattle.std.specs.Prelude.{ℕ, List, Option, None, Some, Result, Ok, Err, codes}
+use Rattle.ph_accounts.specs.Naming.{connected_named}
 use Rattle.ph_errors.specs.declared.api_error.ApiError.{ApiError}
 use Rattle.ph_errors.specs.Table.{error_of, NoSuchObject}
 use Rattle.ph_facts.specs.Outcomes.{Outcome, Refuses}
-use Rattle.ph_items.specs.Accounts.{platform}
 use Rattle.ph_rows.specs.declared.rows.Row.{Row}
-use Rattle.ph_rows.specs.Names.{object_named}
-
--- the number of the account in a row, where it is a connected one: any but the platform's own
-abbrev pub if_connected : Row → Option ℕ
-if_connected row = if row.object == platform then None else Some row.object
-
--- the number of the connected account whose printed id a text is
-abbrev pub connected_named : List Row → List ℕ → Option ℕ
-connected_named rows text = option_and_then if_connected (object_named rows kind.Account text)
 
 -- the destination that was found, or the error of one that isn't there
 abbrev pub to_found : Option ℕ → Result (Option ℕ) ApiError

@@ -2,25 +2,14 @@
 ghost use Rattle.std.specs.Prelude.{◌≡◌, IfErr, IfOk, Ok};
 ghost use Rattle.std.specs.Option.{option_copied};
 ghost use Rattle.ph_calls.specs.Check.{Refuses};
-ghost use Rattle.ph_intents.specs.Destinations.{connected_named, destination_of, to_found};
+ghost use Rattle.ph_accounts.specs.Naming.{connected_named};
+ghost use Rattle.ph_intents.specs.Destinations.{destination_of, to_found};
 
-use ph_base::{Bytes, Kind};
+use ph_accounts::connected_named;
+use ph_base::Bytes;
 use ph_errors::{ApiError, Refusal};
-use ph_items::PLATFORM;
-use ph_rows::{View, object_named};
+use ph_rows::View;
 use std::alloc::Global;
-
-// The number of the connected account whose printed id a text is.
-fn connected_named<V: View>(view: &V, text: &[u8]) -> Option<u64>
-    ensures { result ≡ connected_named (V.state view.now).rows text.now }
-{
-    let row = object_named(view, Kind::Account, text)?;
-    if row.object == PLATFORM {
-        None
-    } else {
-        Some(row.object)
-    }
-}
 
 // The destination that was found, or the refusal of one that isn't there.
 fn to_found(alloc: Global, found: Option<u64>) -> Result<Option<u64>, Refusal>

@@ -1,0 +1,2 @@
+pub mod FeeRefunds
+pub mod Reversals
