@@ -3,7 +3,7 @@ use Rattle.std.specs.Prelude.{option_and_then, option_map}
 use Rattle.std.proofs.Common.{◌≡◌, ℕ, ◌≤◌, true, List, [], ◌∷◌, ◌++◌, Option, Some, None, refl, sym, ap, ◌∙◌, subst, arith}
 use Rattle.std.specs.List.{cons_option}
 use Rattle.std.proofs.lemmas.List.{append-nil}
-use Rattle.ph_errors.specs.Table.{Problem, InvalidValue, NoSuchObject, ParameterMissing, AmountTooSmall, UnexpectedState, ChargeNotCaptured, ChargeAlreadyRefunded, ChargeDisputed, DisputeClosed, PlatformOnly, error_of}
+use Rattle.ph_errors.specs.Table.{Problem, InvalidValue, NoSuchObject, ParameterMissing, AmountTooSmall, UnexpectedState, ChargeNotCaptured, ChargeAlreadyRefunded, ChargeDisputed, DisputeClosed, PlatformOnly, BalanceInsufficient, error_of}
 use Rattle.ph_items.specs.Items.{intent_in}
 use Rattle.ph_items.specs.declared.intents.Intent.{Intent}
 use Rattle.ph_items.specs.declared.items.Item.TheVariants as item
@@ -60,6 +60,10 @@ dispute_closed = refl
 pub of_platform : Refusing PlatformOnly
 unfolding error_of
 of_platform = refl
+
+pub funds_short : Refusing BalanceInsufficient
+unfolding error_of
+funds_short = refl
 
 -- the status of a payment intent by its present version
 pub status_found : (rows : List Row) (object : ℕ) (row : Row) (intent : Intent) → latest_of object rows ≡ Some row

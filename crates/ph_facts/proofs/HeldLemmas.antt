@@ -94,33 +94,13 @@ leaves_at rows object (x ∷ more) (suc i) row leave e = leaves_at rows object m
 -- a version of a charge among them is of one that doesn't hold the payment intent
 charge_is_apart : (rows : List Row) (object version : ℕ) (content : Item) → kind_of content ≡ kind.Charge
     → Leaves rows object version content → IsApart rows object version
-charge_is_apart rows object version (item.Account account) k h = absurd (cc)
-charge_is_apart rows object version (item.Intent intent) k h = absurd (cc)
-charge_is_apart rows object version (item.Attempt attempt) k h = absurd (cc)
 charge_is_apart rows object version (item.Charge charge) k h = h
-charge_is_apart rows object version (item.Refund refund) k h = absurd (cc)
-charge_is_apart rows object version (item.Dispute dispute) k h = absurd (cc)
-charge_is_apart rows object version (item.Transfer transfer) k h = absurd (cc)
-charge_is_apart rows object version (item.Reversal reversal) k h = absurd (cc)
-charge_is_apart rows object version (item.Fee fee) k h = absurd (cc)
-charge_is_apart rows object version (item.FeeRefund fee_refund) k h = absurd (cc)
-charge_is_apart rows object version (item.Txn txn) k h = absurd (cc)
-charge_is_apart rows object version (item.Event event) k h = absurd (cc)
+charge_is_apart rows object version other k h = absurd (cc)
 
 -- the item of which there is a charge is one
 kind_of_charge : (content : Item) (charge : Charge) → charge_in content ≡ Some charge → kind_of content ≡ charge_kind charge.sort
-kind_of_charge (item.Account account) charge e = absurd (cc)
-kind_of_charge (item.Intent intent) charge e = absurd (cc)
-kind_of_charge (item.Attempt attempt) charge e = absurd (cc)
 kind_of_charge (item.Charge version) charge e = (let same : version ≡ charge = cc in ap (λ (c : Charge). charge_kind c.sort) same)
-kind_of_charge (item.Refund refund) charge e = absurd (cc)
-kind_of_charge (item.Dispute dispute) charge e = absurd (cc)
-kind_of_charge (item.Transfer transfer) charge e = absurd (cc)
-kind_of_charge (item.Reversal reversal) charge e = absurd (cc)
-kind_of_charge (item.Fee fee) charge e = absurd (cc)
-kind_of_charge (item.FeeRefund fee_refund) charge e = absurd (cc)
-kind_of_charge (item.Txn txn) charge e = absurd (cc)
-kind_of_charge (item.Event event) charge e = absurd (cc)
+kind_of_charge other charge e = absurd (cc)
 
 -- rows of which none passes a test
 none_passes : (test : Row → Bool) (more : List Row) → ((i : ℕ) (row : Row) → slice_get more i ≡ Some row → test row ≡ false)
@@ -192,18 +172,9 @@ AllBeside rows (row ∷ more) = IsBeside rows row.object row.item × AllBeside r
 -- what leaves all that is held leaves what is held for one payment intent
 beside_leaves : (rows : List Row) (object version : ℕ) (content : Item) → IsBeside rows version content
     → Leaves rows object version content
-beside_leaves rows object version (item.Account account) h = tt
 beside_leaves rows object version (item.Intent intent) h = absurd h
-beside_leaves rows object version (item.Attempt attempt) h = tt
 beside_leaves rows object version (item.Charge charge) h = h object
-beside_leaves rows object version (item.Refund refund) h = tt
-beside_leaves rows object version (item.Dispute dispute) h = tt
-beside_leaves rows object version (item.Transfer transfer) h = tt
-beside_leaves rows object version (item.Reversal reversal) h = tt
-beside_leaves rows object version (item.Fee fee) h = tt
-beside_leaves rows object version (item.FeeRefund fee_refund) h = tt
-beside_leaves rows object version (item.Txn txn) h = tt
-beside_leaves rows object version (item.Event event) h = tt
+beside_leaves rows object version other h = tt
 
 all_leave : (rows : List Row) (object : ℕ) (more : List Row) → AllBeside rows more → AllLeave rows object more
 all_leave rows object [] beside = tt

@@ -1,15 +1,15 @@
 -- Amounts of objects, as rows are added: one more row, rows of other objects, a further version.
 use Rattle.std.specs.Prelude.{slice_get, is_some, ◌==◌, ◌&&◌, ◌||◌}
-use Rattle.std.proofs.Common.{◌≡◌, ℕ, zero, suc, ◌+◌, ◌-◌, ◌≤◌, ◌<◌, inl, inr, Bool, true, false, eqb, List, [], ◌∷◌, ◌++◌, Option, None, Some, length, refl, sym, ap, ◌∙◌, subst, arith}
+use Rattle.std.proofs.Common.{◌≡◌, ℕ, zero, suc, ◌+◌, ◌-◌, ◌≤◌, ◌<◌, inl, inr, Bool, true, false, List, [], ◌∷◌, ◌++◌, Option, None, Some, length, refl, sym, ap, ◌∙◌, subst, arith}
 use Rattle.std.specs.List.{list_any}
-use Rattle.std.proofs.lemmas.Bool.{cond-false, eq-eqb, eqb-false, eqb-true, false≢true, ne_eqb}
+use Rattle.std.proofs.lemmas.Bool.{cond-false, eq-eqb, false≢true, ne_eqb}
 use Rattle.ph_rows.specs.declared.rows.Row.{Row}
 use Rattle.ph_rows.specs.Rows.{latest_of}
 use Rattle.ph_rows.specs.Views.{ViewState}
 use Rattle.ph_rows.proofs.RowLemmas.{both_fail, first_fails, found_among, is_row_at, latest_from, second_fails}
 use Rattle.ph_facts.specs.Order.{IsInOrder}
 use Rattle.ph_facts.specs.Origins.{HasOrigins, origins_of}
-use Rattle.ph_facts.specs.Tallies.{Addition, SaysSum, SaySums, Tally, given, sum_for}
+use Rattle.ph_facts.specs.Tallies.{Addition, SaysSum, Tally, given, sum_for}
 
 -- amounts are added up as sums are: nothing changes nothing, and it doesn't matter where one begins
 pub record IsSum (A : Type 0) (tally : Tally A) : Type 0 where
@@ -102,23 +102,6 @@ sum_known tally object rows more last amount sum latest is right row other e sai
     let equal : amount ≡ other = (let both : Some amount ≡ Some other = sym is ∙ ap (λ (r : Row). tally.said r.item) same ∙ said in cc) in
     sym equal ∙ right ∙ sym (sum_append tally object rows more sum)
 
--- and where its present version says nothing of it
-pub sum_unsaid : {A : Type 0} (tally : Tally A) (object : ℕ) (rows : List Row) (last : Row)
-    → latest_of object rows ≡ Some last → tally.said last.item ≡ None → SaysSum tally object rows
-sum_unsaid tally object rows last latest none row other e said =
-    let same : last ≡ row = (let both : Some last ≡ Some row = sym latest ∙ e in cc) in
-    let clash : Some other ≡ None = sym said ∙ ap (λ (r : Row). tally.said r.item) (sym same) ∙ none in absurd (cc)
-
--- all objects say their amounts still where one does, and the rows have nothing to do with any other
-pub sums_of_one : {A : Type 0} (tally : Tally A) (rows more : List Row) (object : ℕ) → IsSum A tally → SaySums tally rows
-    → SaysSum tally object (rows ++ more) → ((other : ℕ) → (other ≡ object → ⊥) → list_any (touches tally other) more ≡ false)
-    → SaySums tally (rows ++ more)
-sums_of_one tally rows more object sum says mine apart other = at (eqb other object) refl
-  where
-    at : (b : Bool) → eqb other object ≡ b → SaysSum tally other (rows ++ more)
-    at true e = subst (λ (k : ℕ). SaysSum tally k (rows ++ more)) (sym (eqb-true other object e)) mine
-    at false e = sum_stays tally other rows more sum (apart other (eqb-false other object e)) (says other)
-
 -- a row has to do with amounts: it adds to one, or says one
 abbrev pub speaks : {A : Type 0} → Tally A → Row → Bool
 speaks tally row = is_some (tally.adds row) || is_some (tally.said row.item)
@@ -150,11 +133,6 @@ touch_none tally object (row ∷ more) none =
     both_fail (touches tally object row) (list_any (touches tally object) more)
     (touches_not tally object row (first_fails (speaks tally row) (list_any (speaks tally) more) none))
     (touch_none tally object more (second_fails (speaks tally row) (list_any (speaks tally) more) none))
-
--- all objects say their amounts still with rows that have to do with none
-pub sums_stay : {A : Type 0} (tally : Tally A) (rows more : List Row) → IsSum A tally → list_any (speaks tally) more ≡ false
-    → SaySums tally rows → SaySums tally (rows ++ more)
-sums_stay tally rows more sum none says object = sum_stays tally object rows more sum (touch_none tally object more none) (says object)
 
 -- what a row adds, it adds to an object that its item names, or to none that is later than the rows where those have begun
 abbrev pub AddsToNamed : {A : Type 0} → Tally A → Type 0

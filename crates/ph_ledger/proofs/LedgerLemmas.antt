@@ -34,16 +34,8 @@ balances_sum steps available account currency =
 
 -- an item that is no transaction moves nothing
 moves_nothing : (o : Item) → is_some (txn_in o) ≡ false → movement_of o ≡ None
-moves_nothing (item.Account account) e = refl
-moves_nothing (item.Intent intent) e = refl
-moves_nothing (item.Attempt attempt) e = refl
-moves_nothing (item.Charge charge) e = refl
-moves_nothing (item.Refund refund) e = refl
-moves_nothing (item.Dispute dispute) e = refl
-moves_nothing (item.Transfer transfer) e = refl
-moves_nothing (item.Fee fee) e = refl
 moves_nothing (item.Txn txn) e = absurd (cc)
-moves_nothing (item.Event event) e = refl
+moves_nothing other e = refl
 
 -- a row that moves nothing has no balance, whether it is of the account or not
 no_balance : (mine : Bool) (test first : Movement → Bool) (row : Row) → movement_of row.item ≡ None

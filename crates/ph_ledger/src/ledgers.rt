@@ -135,7 +135,9 @@ fn posting(row: &Row) -> Row
         | Item::Refund(_)
         | Item::Dispute(_)
         | Item::Transfer(_)
+        | Item::Reversal(_)
         | Item::Fee(_)
+        | Item::FeeRefund(_)
         | Item::Event(_) => unreachable!(),
     }
 }
