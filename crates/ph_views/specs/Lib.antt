@@ -1,5 +1,7 @@
 pub mod Fees
+pub mod FeeRefunds
 pub mod Transfers
+pub mod Reversals
 pub mod Accounts
 pub mod Balances
 pub mod Charges

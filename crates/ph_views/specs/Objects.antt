@@ -11,9 +11,11 @@ use Rattle.ph_views.specs.Accounts.{account_doc}
 use Rattle.ph_views.specs.Charges.{charge_doc}
 use Rattle.ph_views.specs.Disputes.{dispute_doc}
 use Rattle.ph_views.specs.Events.{event_doc}
+use Rattle.ph_views.specs.FeeRefunds.{fee_refund_doc}
 use Rattle.ph_views.specs.Fees.{fee_doc}
 use Rattle.ph_views.specs.Intents.{intent_doc}
 use Rattle.ph_views.specs.Refunds.{refund_doc}
+use Rattle.ph_views.specs.Reversals.{reversal_doc}
 use Rattle.ph_views.specs.Transactions.{txn_doc}
 use Rattle.ph_views.specs.Transfers.{transfer_doc}
 
@@ -40,7 +42,9 @@ version_doc created object (item.Charge charge) = charge_doc created object char
 version_doc created object (item.Refund refund) = refund_doc created object refund
 version_doc created object (item.Dispute dispute) = dispute_doc created object dispute
 version_doc created object (item.Transfer transfer) = transfer_doc created object transfer
+version_doc created object (item.Reversal reversal) = reversal_doc created object reversal
 version_doc created object (item.Fee fee) = fee_doc created object fee
+version_doc created object (item.FeeRefund refund) = fee_refund_doc created object refund
 version_doc created object (item.Txn txn) = Null
 version_doc created object (item.Event event) = Null
 

@@ -5,11 +5,11 @@ use Rattle.ph_money.specs.Currencies.{code_of}
 use Rattle.ph_items.specs.declared.refunds.Refund.{Refund}
 use Rattle.ph_items.specs.Words.{refund_reason_text}
 use Rattle.ph_json.specs.declared.doc.Doc.{Doc}
-use Rattle.ph_json.specs.declared.doc.Doc.TheVariants.{Null, Number, Text, Object}
+use Rattle.ph_json.specs.declared.doc.Doc.TheVariants.{Number, Text, Object}
 use Rattle.ph_json.specs.Values.{text_or_null}
 use Rattle.ph_views.specs.Values.{moment_doc, printed_id, id_or_null, metadata_doc}
 
--- how much of which charge, and why; no transfers are reversed yet
+-- how much of which charge, and why, and what it took back of the charge's transfer
 unfoldable pub refund_amount_members : Refund → List (List ℕ × Doc)
 refund_amount_members refund =
     (codes "amount", Number (pos refund.amount))
@@ -18,7 +18,7 @@ refund_amount_members refund =
     ∷ (codes "currency", Text (code_of refund.currency))
     ∷ (codes "payment_intent", id_or_null kind.Intent refund.intent)
     ∷ (codes "reason", text_or_null (option_map refund_reason_text refund.reason))
-    ∷ (codes "transfer_reversal", Null)
+    ∷ (codes "transfer_reversal", id_or_null kind.Reversal refund.reversal)
     ∷ []
 
 -- which one, and made when; every refund has succeeded

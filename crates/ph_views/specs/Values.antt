@@ -1,5 +1,5 @@
 -- The values that the documents of objects share.
-use Rattle.std.specs.Prelude.{ℕ, ◌-◌, ◌^◌, min, pos, List, [], map, ◌++◌, Option, None, Some}
+use Rattle.std.specs.Prelude.{ℕ, ◌-◌, ◌^◌, min, pos, List, map, ◌++◌, Option, None, Some}
 use Rattle.ph_base.specs.declared.ids.Kind.{Kind}
 use Rattle.ph_base.specs.Ids.{prefix_of}
 use Rattle.ph_base.specs.Numbers.{padded}
@@ -28,7 +28,3 @@ metadata_doc pairs = Object (map (λ pair. (pair.key, Text pair.value)) pairs)
 abbrev pub amount_or_null : Option ℕ → Doc
 amount_or_null None = Null
 amount_or_null (Some amount) = Number (pos amount)
-
--- an object without members
-abbrev pub empty_doc : Doc
-empty_doc = Object []

@@ -1,6 +1,6 @@
 //! Application fees.
 ghost use Rattle.std.specs.Prelude.{◌≡◌, [], ◌∷◌, ◌++◌, IfOk, codes};
-ghost use Rattle.ph_views.specs.Fees.{fee_doc, fee_amount_members, fee_name_members};
+ghost use Rattle.ph_views.specs.Fees.{fee_doc, fee_amount_members, fee_name_members, is_given_back};
 
 use crate::values::{put_amount, put_id, put_moment};
 use ph_base::{Kind, NoMemory};
@@ -18,7 +18,7 @@ pub fn fee_doc(alloc: Global, created: u64, object: u64, fee: &Fee) -> Result<Do
     Ok(members.done())
 }
 
-// How much, of which charge, and from whom. Nothing of it is given back yet.
+// How much, of which charge, and from whom, and what of it was given back.
 #[tactic(auto, unfolding(crate::specs::Fees::fee_amount_members))]
 fn amounts(alloc: Global, fee: &Fee) -> Result<Members, NoMemory>
     ensures { IfOk result (λ members. members ≡ fee_amount_members fee.now) }
@@ -26,7 +26,7 @@ fn amounts(alloc: Global, fee: &Fee) -> Result<Members, NoMemory>
     let mut members = Members::new(alloc);
     put_id(&mut members, "account", Kind::Account, fee.account)?;
     put_amount(&mut members, "amount", fee.amount)?;
-    members.number("amount_refunded", 0)?;
+    put_amount(&mut members, "amount_refunded", fee.amount_refunded)?;
     put_id(
         &mut members,
         "balance_transaction",
@@ -35,8 +35,15 @@ fn amounts(alloc: Global, fee: &Fee) -> Result<Members, NoMemory>
     )?;
     put_id(&mut members, "charge", Kind::Charge, fee.charge)?;
     members.text("currency", fee.currency.code())?;
-    members.truth("refunded", false)?;
+    members.truth("refunded", is_given_back(fee))?;
     Ok(members)
+}
+
+// Whether all of it was given back.
+fn is_given_back(fee: &Fee) -> bool
+    ensures { result ≡ is_given_back fee.now }
+{
+    fee.amount_refunded.units() == fee.amount.units()
 }
 
 // Which one, and made when.

@@ -6,9 +6,11 @@ use crate::accounts::account_doc;
 use crate::charges::charge_doc;
 use crate::disputes::dispute_doc;
 use crate::events::event_doc;
+use crate::fee_refunds::fee_refund_doc;
 use crate::fees::fee_doc;
 use crate::intents::intent_doc;
 use crate::refunds::refund_doc;
+use crate::reversals::reversal_doc;
 use crate::subjects::{created, version_before};
 use crate::transactions::txn_doc;
 use crate::transfers::transfer_doc;
@@ -34,7 +36,9 @@ pub fn item_doc<V: View>(alloc: Global, view: &V, row: &Row) -> Result<Doc, NoMe
         | Item::Refund(_)
         | Item::Dispute(_)
         | Item::Transfer(_)
-        | Item::Fee(_) => version(alloc, created(view, row), row.object, &row.item),
+        | Item::Reversal(_)
+        | Item::Fee(_)
+        | Item::FeeRefund(_) => version(alloc, created(view, row), row.object, &row.item),
         Item::Txn(txn) => txn_doc(alloc, view.time(), created(view, row), row.object, txn),
         Item::Event(event) => {
             let subject = subject(alloc, view, row.place, event.object)?;
@@ -80,7 +84,9 @@ fn version(alloc: Global, created: u64, object: u64, item: &Item) -> Result<Doc,
         Item::Refund(refund) => refund_doc(alloc, created, object, refund),
         Item::Dispute(dispute) => dispute_doc(alloc, created, object, dispute),
         Item::Transfer(transfer) => transfer_doc(alloc, created, object, transfer),
+        Item::Reversal(reversal) => reversal_doc(alloc, created, object, reversal),
         Item::Fee(fee) => fee_doc(alloc, created, object, fee),
+        Item::FeeRefund(refund) => fee_refund_doc(alloc, created, object, refund),
         Item::Attempt(_) | Item::Txn(_) | Item::Event(_) => Ok(Doc::Null),
     }
 }

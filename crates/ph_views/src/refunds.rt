@@ -25,7 +25,7 @@ pub fn refund_doc(
     Ok(members.done())
 }
 
-// How much of which charge, and why. No transfers are reversed yet.
+// How much of which charge, and why, and what it took back of the charge's transfer.
 #[tactic(auto, unfolding(crate::specs::Refunds::refund_amount_members))]
 fn amounts(alloc: Global, refund: &Refund) -> Result<Members, NoMemory>
     ensures { IfOk result (λ members. members ≡ refund_amount_members refund.now) }
@@ -42,7 +42,12 @@ fn amounts(alloc: Global, refund: &Refund) -> Result<Members, NoMemory>
     members.text("currency", refund.currency.code())?;
     put_id_or_null(&mut members, "payment_intent", Kind::Intent, refund.intent)?;
     put_reason(&mut members, "reason", refund.reason)?;
-    members.null("transfer_reversal")?;
+    put_id_or_null(
+        &mut members,
+        "transfer_reversal",
+        Kind::Reversal,
+        refund.reversal,
+    )?;
     Ok(members)
 }
 

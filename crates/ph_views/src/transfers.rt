@@ -1,8 +1,8 @@
 //! Transfers.
 ghost use Rattle.std.specs.Prelude.{◌≡◌, [], ◌∷◌, ◌++◌, IfOk, codes};
-ghost use Rattle.ph_views.specs.Transfers.{transfer_doc, transfer_amount_members, transfer_name_members, transfer_reversal_members};
+ghost use Rattle.ph_views.specs.Transfers.{is_reversed, transfer_doc, transfer_amount_members, transfer_name_members, transfer_reversal_members};
 
-use crate::values::{put_amount, put_empty, put_id, put_id_or_null, put_moment};
+use crate::values::{put_amount, put_id, put_id_or_null, put_metadata, put_moment};
 use ph_base::{Kind, NoMemory};
 use ph_items::Transfer;
 use ph_json::{Doc, Members};
@@ -19,8 +19,8 @@ pub fn transfer_doc(
     ensures { IfOk result (λ doc. doc ≡ transfer_doc created object transfer.now) }
 {
     let mut members = amounts(alloc, transfer)?;
-    members.append(names(alloc, created, object)?)?;
-    members.append(reversals(alloc)?)?;
+    members.append(names(alloc, created, object, transfer)?)?;
+    members.append(reversals(alloc, transfer)?)?;
     Ok(members.done())
 }
 
@@ -60,28 +60,35 @@ fn amounts(alloc: Global, transfer: &Transfer) -> Result<Members, NoMemory>
     Ok(members)
 }
 
-// Which one, and made when. Nothing is said of one that a charge makes.
+// Which one, made when, and what is said of it.
 #[tactic(auto, unfolding(crate::specs::Transfers::transfer_name_members))]
-fn names(alloc: Global, created: u64, object: u64) -> Result<Members, NoMemory>
-    ensures { IfOk result (λ members. members ≡ transfer_name_members created object) }
+fn names(alloc: Global, created: u64, object: u64, transfer: &Transfer) -> Result<Members, NoMemory>
+    ensures { IfOk result (λ members. members ≡ transfer_name_members created object transfer.now) }
 {
     let mut members = Members::new(alloc);
     put_moment(&mut members, "created", created)?;
-    members.null("description")?;
+    members.text_or_null("description", &transfer.description)?;
     put_id(&mut members, "id", Kind::Transfer, object)?;
     members.truth("livemode", false)?;
-    put_empty(alloc, &mut members, "metadata")?;
+    put_metadata(alloc, &mut members, "metadata", &transfer.metadata)?;
     members.word("object", "transfer")?;
     Ok(members)
 }
 
-// What came back of it. No transfers are reversed yet.
+// What came back of it.
 #[tactic(auto, unfolding(crate::specs::Transfers::transfer_reversal_members))]
-fn reversals(alloc: Global) -> Result<Members, NoMemory>
-    ensures { IfOk result (λ members. members ≡ transfer_reversal_members) }
+fn reversals(alloc: Global, transfer: &Transfer) -> Result<Members, NoMemory>
+    ensures { IfOk result (λ members. members ≡ transfer_reversal_members transfer.now) }
 {
     let mut members = Members::new(alloc);
-    members.number("amount_reversed", 0)?;
-    members.truth("reversed", false)?;
+    put_amount(&mut members, "amount_reversed", transfer.amount_reversed)?;
+    members.truth("reversed", is_reversed(transfer))?;
     Ok(members)
+}
+
+// Whether all of it came back.
+fn is_reversed(transfer: &Transfer) -> bool
+    ensures { result ≡ is_reversed transfer.now }
+{
+    transfer.amount_reversed.units() == transfer.amount.units()
 }

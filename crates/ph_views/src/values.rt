@@ -3,7 +3,7 @@
 ghost use Rattle.std.specs.Prelude.{◌≡◌, [], ◌∷◌, ◌++◌, pos, min, ◌-◌, IfOk, OnOk, OnErr};
 ghost use Rattle.ph_items.specs.Weights.{method_text};
 ghost use Rattle.ph_json.specs.Values.{text_or_null};
-ghost use Rattle.ph_views.specs.Values.{amount_or_null, empty_doc, moment_doc, printed_id, id_or_null, metadata_doc};
+ghost use Rattle.ph_views.specs.Values.{amount_or_null, moment_doc, printed_id, id_or_null, metadata_doc};
 
 use ph_base::{Id, IdText, Kind, NoMemory, print_id};
 use ph_items::{Metadata, PaymentMethod};
@@ -34,14 +34,6 @@ pub fn put_amount_or_null(
         None => members.null(key),
         Some(amount) => put_amount(members, key, amount),
     }
-}
-
-/// Puts an object without members at the end.
-pub fn put_empty(alloc: Global, members: &mut Members, key: &str) -> Result<(), NoMemory>
-    ensures ok { OnOk result (members.new ≡ members.old ++ (key.now, empty_doc) ∷ []) }
-    ensures err { OnErr result (members.new ≡ members.old) }
-{
-    members.put(key, Members::new(alloc).done())
 }
 
 /// Puts a moment at the end, in seconds since 1970.
