@@ -5,10 +5,11 @@ use Rattle.ph_money.specs.Fees.{fee_of}
 use Rattle.ph_items.specs.declared.charges.Charge.{Charge}
 use Rattle.ph_items.specs.Movements.{movement_of}
 use Rattle.ph_rows.specs.Balances.{net_of}
-use Rattle.ph_charges.specs.Splits.{SplitRow, split_rows}
+use Rattle.ph_charges.specs.NewRows.{NewRow}
+use Rattle.ph_charges.specs.Splits.{split_rows}
 
 -- what the rows of a split move, over all accounts
-abbrev pub net_of_split : List SplitRow → ℤ
+abbrev pub net_of_split : List NewRow → ℤ
 net_of_split split = net_of (filter_map (λ row. movement_of row.item) split)
 
 -- whatever is captured of whatever charge, the rows of its split move what was captured, less the processing fee

@@ -2,6 +2,8 @@ pub mod Approvals
 pub mod Captures
 pub mod Charges
 pub mod Laws
+pub mod NewRows
 pub mod Payments
 pub mod Splits
 pub mod Told
+pub mod Transfers

@@ -1,14 +1,11 @@
 -- The split of what is captured of a charge: the rows that give it to the balances of accounts, in three kinds.
-use Rattle.std.specs.Prelude.{ℕ, ◌+◌, ◌-◌, ◌==◌, ◌^◌, min, Bool, true, false, if◌then◌else◌, ℤ, pos, neg_ℤ, List, [], ◌∷◌, ◌++◌, Option, None, Some, unwrap_or, option_map}
+use Rattle.std.specs.Prelude.{ℕ, ◌+◌, ◌-◌, ◌==◌, ◌^◌, min, Bool, true, false, if◌then◌else◌, ℤ, pos, List, [], ◌∷◌, ◌++◌, Option, None, Some, unwrap_or, option_map}
 use Rattle.ph_base.specs.declared.acquirer.Method.{Method}
 use Rattle.ph_base.specs.declared.acquirer.Method.TheVariants as method
 use Rattle.ph_money.specs.Fees.{fee_of}
 use Rattle.ph_items.specs.declared.charges.Capture.{Capture}
 use Rattle.ph_items.specs.declared.charges.Charge.{Charge}
-use Rattle.ph_items.specs.declared.charges.ChargeSort.TheVariants as charge_sort
-use Rattle.ph_items.specs.declared.charges.ChargeStatus.TheVariants as status
 use Rattle.ph_items.specs.declared.fees.Fee.{Fee}
-use Rattle.ph_items.specs.declared.items.Item.{Item}
 use Rattle.ph_items.specs.declared.items.Item.TheVariants as item
 use Rattle.ph_items.specs.declared.payment_methods.PaymentMethod.{PaymentMethod}
 use Rattle.ph_items.specs.declared.transactions.Txn.{Txn}
@@ -18,7 +15,8 @@ use Rattle.ph_items.specs.declared.transactions.TxnType.{TxnType}
 use Rattle.ph_items.specs.declared.transactions.TxnType.TheVariants as sort
 use Rattle.ph_items.specs.declared.transfers.Transfer.{Transfer}
 use Rattle.ph_items.specs.Accounts.{platform}
-use Rattle.ph_rows.specs.Batches.{BatchState, last_place, with_row}
+use Rattle.ph_charges.specs.NewRows.{NewRow}
+use Rattle.ph_charges.specs.Transfers.{transfer_rows}
 
 -- ---- when it is available, and what the platform takes of it
 
@@ -58,11 +56,6 @@ fee_taken charge amount = min (unwrap_or charge.application_fee_amount 0) amount
 
 -- ---- the rows
 
--- a row of a split: the first version of an object, and the account that the object belongs to
-pub record SplitRow : Type 0 where
-  pub account : ℕ
-  pub item : Item
-
 -- a transaction of what is captured now of a charge: all that a split moves is available at one moment
 abbrev pub split_txn : Charge → TxnType → ℤ → ℕ → TxnSource → ℕ → Txn
 split_txn charge sort amount fee source now = record {
@@ -75,60 +68,27 @@ split_txn charge sort amount fee source now = record {
 }
 
 -- the transaction of an amount that is captured now of a charge of an account, of which so much is kept
-abbrev pub charge_row : ℕ → ℕ → Charge → ℕ → ℕ → ℕ → SplitRow
+abbrev pub charge_row : ℕ → ℕ → Charge → ℕ → ℕ → ℕ → NewRow
 charge_row account object charge amount kept now = record {
   account = account;
   item = item.Txn (split_txn charge sort.Charge (pos amount) kept (source.Charge object) now);
 }
 
--- the transfer of a place, of an amount of a charge to a destination: its transaction and the payment stand behind it
+-- the transfer of a number, of an amount of a charge to a destination: its transaction and its payment stand behind it
 abbrev pub split_transfer : ℕ → ℕ → ℕ → Charge → ℕ → ℕ → Transfer
-split_transfer place destination object charge amount now = record {
+split_transfer number destination object charge amount now = record {
   amount = amount;
+  amount_reversed = 0;
   currency = charge.currency;
   destination = destination;
-  payment = place + 2;
+  payment = number + 2;
   source = Some object;
-  transaction = place + 1;
+  transaction = number + 1;
   available_on = available_from charge.payment_method now;
-  transfer_group = charge.transfer_group;
-}
-
--- a transfer, and the transaction that takes its amount from the platform
-abbrev pub transfer_rows : ℕ → ℕ → ℕ → Charge → ℕ → ℕ → List SplitRow
-transfer_rows place destination object charge amount now =
-    record { account = platform; item = item.Transfer (split_transfer place destination object charge amount now) } ∷
-    record { account = platform; item = item.Txn (split_txn charge sort.Transfer (neg_ℤ (pos amount)) 0 (source.Transfer place) now) } ∷ []
-
--- the payment of a place that a transfer gives: all of it is captured, by its transaction, which stands behind it
-abbrev pub split_payment : ℕ → ℕ → Charge → ℕ → ℕ → Charge
-split_payment place transfer charge amount now = record {
-  sort = charge_sort.Payment transfer;
-  amount = amount;
-  amount_captured = amount;
-  amount_refunded = 0;
-  currency = charge.currency;
-  status = status.Succeeded;
-  payment_method = None;
-  application_fee_amount = None;
-  destination = None;
-  capture = Some (record {
-    transaction = place + 1;
-    available_on = available_from charge.payment_method now;
-    transfer = None;
-    fee = None;
-  });
-  dispute = None;
   description = None;
   metadata = [];
-  transfer_group = None;
+  transfer_group = charge.transfer_group;
 }
-
--- a payment, and the transaction that gives its amount to the destination, less the platform's fee
-abbrev pub payment_rows : ℕ → ℕ → ℕ → Charge → ℕ → ℕ → ℕ → List SplitRow
-payment_rows place destination transfer charge amount taken now =
-    record { account = destination; item = item.Charge (split_payment place transfer charge amount now) } ∷
-    record { account = destination; item = item.Txn (split_txn charge sort.Payment (pos amount) taken (source.Payment place) now) } ∷ []
 
 -- the application fee of a place, of a charge, that is taken from an account: its transaction stands behind it
 abbrev pub split_fee : ℕ → ℕ → ℕ → Charge → ℕ → ℕ → Fee
@@ -136,13 +96,14 @@ split_fee place account object charge taken now = record {
   account = account;
   charge = object;
   amount = taken;
+  amount_refunded = 0;
   currency = charge.currency;
   transaction = place + 1;
   available_on = available_from charge.payment_method now;
 }
 
 -- an application fee, and the transaction that gives it to the platform; nothing where nothing is taken
-abbrev pub fee_rows : ℕ → ℕ → ℕ → Charge → ℕ → ℕ → List SplitRow
+abbrev pub fee_rows : ℕ → ℕ → ℕ → Charge → ℕ → ℕ → List NewRow
 fee_rows place account object charge taken now =
     if taken == 0 then [] else
     record { account = platform; item = item.Fee (split_fee place account object charge taken now) } ∷
@@ -151,27 +112,26 @@ fee_rows place account object charge taken now =
 -- ---- the three kinds, each of an amount that is captured now of the charge of a number, whose first row is that of a place
 
 -- of a charge that the platform makes for itself: its transaction, less the processing fee
-abbrev pub plain_split : ℕ → ℕ → Charge → ℕ → ℕ → List SplitRow
+abbrev pub plain_split : ℕ → ℕ → Charge → ℕ → ℕ → List NewRow
 plain_split account object charge amount now =
     charge_row account object charge amount (fee_of charge.currency amount) now ∷ []
 
 -- of a charge of a connected account: its transaction, less the processing fee and the platform's, and the platform's fee
-abbrev pub direct_split : ℕ → ℕ → ℕ → Charge → ℕ → ℕ → List SplitRow
+abbrev pub direct_split : ℕ → ℕ → ℕ → Charge → ℕ → ℕ → List NewRow
 direct_split place account object charge amount now =
     charge_row account object charge amount (fee_of charge.currency amount + fee_taken charge amount) now ∷
     fee_rows (place + 1) account object charge (fee_taken charge amount) now
 
 -- of a charge with a destination: its transaction, less the processing fee; the transfer of all of it; the payment, less the
 -- platform's fee; and that fee
-abbrev pub destination_split : ℕ → ℕ → ℕ → ℕ → Charge → ℕ → ℕ → List SplitRow
+abbrev pub destination_split : ℕ → ℕ → ℕ → ℕ → Charge → ℕ → ℕ → List NewRow
 destination_split place destination account object charge amount now =
     charge_row account object charge amount (fee_of charge.currency amount) now ∷
-    (transfer_rows (place + 1) destination object charge amount now ++
-    (payment_rows (place + 3) destination (place + 1) charge amount (fee_taken charge amount) now ++
-    fee_rows (place + 5) destination object charge (fee_taken charge amount) now))
+    (transfer_rows (place + 1) (split_transfer (place + 1) destination object charge amount now) (fee_taken charge amount) ++
+    fee_rows (place + 5) destination object charge (fee_taken charge amount) now)
 
 -- the kind of a split, by the destination of the charge, and by its account
-abbrev pub split_to : Option ℕ → ℕ → ℕ → ℕ → Charge → ℕ → ℕ → List SplitRow
+abbrev pub split_to : Option ℕ → ℕ → ℕ → ℕ → Charge → ℕ → ℕ → List NewRow
 split_to None place account object charge amount now =
     if account == platform then plain_split account object charge amount now
     else direct_split place account object charge amount now
@@ -179,7 +139,7 @@ split_to (Some destination) place account object charge amount now =
     destination_split place destination account object charge amount now
 
 -- the split of an amount that is captured now of the charge of a number and an account
-abbrev pub split_rows : ℕ → ℕ → ℕ → Charge → ℕ → ℕ → List SplitRow
+abbrev pub split_rows : ℕ → ℕ → ℕ → Charge → ℕ → ℕ → List NewRow
 split_rows place account object charge amount now = split_to charge.destination place account object charge amount now
 
 -- ---- what the charge keeps of it
@@ -206,10 +166,3 @@ split_capture place account charge amount now = record {
   transfer = transfer_in charge.destination place;
   fee = fee_in charge.destination place account (fee_taken charge amount);
 }
-
--- ---- how it is added
-
--- the batch with the rows of a split, each the first version of a new object
-abbrev pub with_split : List SplitRow → BatchState → BatchState
-with_split [] batch = batch
-with_split (row ∷ split) batch = with_split split (with_row batch (last_place batch + 1) row.account row.item)

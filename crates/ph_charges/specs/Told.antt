@@ -18,7 +18,9 @@ split_event (item.Charge charge) = None
 split_event (item.Refund refund) = None
 split_event (item.Dispute dispute) = None
 split_event (item.Transfer transfer) = Some event.TransferCreated
+split_event (item.Reversal reversal) = None
 split_event (item.Fee fee) = Some event.FeeCreated
+split_event (item.FeeRefund fee_refund) = None
 split_event (item.Txn txn) = None
 split_event (item.Event event) = None
 

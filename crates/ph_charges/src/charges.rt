@@ -1,7 +1,7 @@
 //! The versions of a charge.
 ghost use Rattle.std.specs.Prelude.{◌≡◌, ◌+◌, ◌<◌, ◌^◌, OnOk, IfOk};
 ghost use Rattle.ph_rows.specs.Batches.{last_place};
-ghost use Rattle.ph_charges.specs.Charges.{new_charge, with_captured};
+ghost use Rattle.ph_charges.specs.Charges.{drawn_by_capture, new_charge, with_captured};
 
 use crate::splits::{add_split, split_capture};
 use ph_base::NoMemory;
@@ -27,6 +27,7 @@ pub fn new_charge(
         amount: intent.amount,
         amount_captured: Amount::new(0),
         amount_refunded: Amount::new(0),
+        amount_transferred: Amount::new(0),
         currency: intent.currency,
         status,
         payment_method: copy_method(alloc, intent.payment_method.as_ref())?,
@@ -38,6 +39,16 @@ pub fn new_charge(
         metadata: intent.metadata.copy(alloc)?,
         transfer_group: copy_text(alloc, intent.transfer_group.as_ref())?,
     })
+}
+
+// What is drawn on a charge by the capture of an amount.
+fn drawn_by_capture(destination: Option<u64>, amount: Amount) -> Amount
+    ensures { result ≡ drawn_by_capture destination amount }
+{
+    match destination {
+        Some(_) => amount,
+        None => Amount::new(0),
+    }
 }
 
 // The place of the row behind the next one.
@@ -67,6 +78,7 @@ pub fn add_captured(
     let place = second_place(batch)?;
     let mut captured = charge.copy(alloc)?;
     captured.amount_captured = amount;
+    captured.amount_transferred = drawn_by_capture(charge.destination, amount);
     captured.capture = Some(split_capture(place, account, charge, amount, batch.at()));
     batch.change(object, account, Item::Charge(captured))?;
     add_split(alloc, place, account, object, charge, amount, batch)

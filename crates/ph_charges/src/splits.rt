@@ -1,12 +1,13 @@
 //! The split of what is captured of a charge: to the platform, to a connected account, or to a destination.
 ghost use Rattle.std.specs.Prelude.{◌≡◌, ◌+◌, ◌<◌, ◌^◌, ℤ, [], ◌∷◌, IfOk, OnOk};
-ghost use Rattle.ph_charges.specs.Splits.{charge_row, destination_split, direct_split, fee_at, fee_in, fee_rows, fee_taken, payment_rows, plain_split, split_capture, split_fee, split_payment, split_rows, split_transfer, split_txn, transfer_in, transfer_rows, with_split};
+ghost use Rattle.ph_charges.specs.NewRows.{with_new_rows};
+ghost use Rattle.ph_charges.specs.Splits.{charge_row, destination_split, direct_split, fee_at, fee_in, fee_rows, fee_taken, plain_split, split_capture, split_fee, split_rows, split_transfer, split_txn, transfer_in};
 
 use crate::moments::available_from;
+use crate::transfers::add_transfer;
 use ph_base::NoMemory;
 use ph_items::{
-    Capture, Charge, ChargeSort, ChargeStatus, Fee, Item, Metadata, PLATFORM, Transfer, Txn,
-    TxnSource, TxnType, copy_text,
+    Capture, Charge, Fee, Item, Metadata, PLATFORM, Transfer, Txn, TxnSource, TxnType, copy_text,
 };
 use ph_money::{Amount, SignedAmount, fee};
 use ph_rows::Batch;
@@ -54,7 +55,7 @@ fn add_charge_row(
     batch: &mut Batch,
 ) -> Result<(), NoMemory>
     requires { kept < 2 ^ 27 }
-    ensures { OnOk result (batch.new ≡ with_split (charge_row account object charge.now amount kept batch.old.at ∷ []) batch.old) }
+    ensures { OnOk result (batch.new ≡ with_new_rows (charge_row account object charge.now amount kept batch.old.at ∷ []) batch.old) }
 {
     let given = SignedAmount::given(amount);
     let source = TxnSource::Charge(object);
@@ -63,112 +64,32 @@ fn add_charge_row(
     Ok(())
 }
 
-// The transfer of a place, of an amount of a charge to a destination.
+// The transfer of a number, of an amount of a charge to a destination.
 fn split_transfer(
     alloc: Global,
-    place: u64,
+    number: u64,
     destination: u64,
     object: u64,
     charge: &Charge,
     amount: Amount,
     now: u64,
 ) -> Result<Transfer, NoMemory>
-    requires { place < 2 ^ 63 }
-    ensures { IfOk result (λ transfer. transfer ≡ split_transfer place destination object charge.now amount now) }
+    requires { number < 2 ^ 63 }
+    ensures { IfOk result (λ transfer. transfer ≡ split_transfer number destination object charge.now amount now) }
 {
     Ok(Transfer {
         amount,
+        amount_reversed: Amount::new(0),
         currency: charge.currency,
         destination,
-        payment: place + 2,
+        payment: number + 2,
         source: Some(object),
-        transaction: place + 1,
+        transaction: number + 1,
         available_on: available_from(&charge.payment_method, now),
-        transfer_group: copy_text(alloc, charge.transfer_group.as_ref())?,
-    })
-}
-
-// Adds a transfer, whose place is this, and the transaction that takes its amount from the platform.
-fn add_transfer_rows(
-    alloc: Global,
-    place: u64,
-    destination: u64,
-    object: u64,
-    charge: &Charge,
-    amount: Amount,
-    batch: &mut Batch,
-) -> Result<(), NoMemory>
-    requires { place < 2 ^ 63 }
-    ensures { OnOk result (batch.new ≡ with_split (transfer_rows place destination object charge.now amount batch.old.at) batch.old) }
-{
-    let now = batch.at();
-    let transfer = split_transfer(alloc, place, destination, object, charge, amount, now)?;
-    batch.add(PLATFORM, Item::Transfer(transfer))?;
-    let taken = SignedAmount::taken(amount);
-    let source = TxnSource::Transfer(place);
-    let txn = split_txn(charge, TxnType::Transfer, taken, 0, source, now);
-    batch.add(PLATFORM, Item::Txn(txn))?;
-    Ok(())
-}
-
-// The payment of a place that a transfer gives.
-fn split_payment(
-    alloc: Global,
-    place: u64,
-    transfer: u64,
-    charge: &Charge,
-    amount: Amount,
-    now: u64,
-) -> Charge
-    requires { place < 2 ^ 63 }
-    ensures { result ≡ split_payment place transfer charge.now amount now }
-{
-    Charge {
-        sort: ChargeSort::Payment(transfer),
-        amount,
-        amount_captured: amount,
-        amount_refunded: Amount::new(0),
-        currency: charge.currency,
-        status: ChargeStatus::Succeeded,
-        payment_method: None,
-        application_fee_amount: None,
-        destination: None,
-        capture: Some(Capture {
-            transaction: place + 1,
-            available_on: available_from(&charge.payment_method, now),
-            transfer: None,
-            fee: None,
-        }),
-        dispute: None,
         description: None,
         metadata: Metadata::new(alloc),
-        transfer_group: None,
-    }
-}
-
-// Adds a payment, whose place is this, and the transaction that gives its amount to the destination, less what the
-// platform takes of it.
-fn add_payment_rows(
-    alloc: Global,
-    place: u64,
-    destination: u64,
-    transfer: u64,
-    charge: &Charge,
-    amount: Amount,
-    taken: Amount,
-    batch: &mut Batch,
-) -> Result<(), NoMemory>
-    requires { place < 2 ^ 63 }
-    ensures { OnOk result (batch.new ≡ with_split (payment_rows place destination transfer charge.now amount taken batch.old.at) batch.old) }
-{
-    let now = batch.at();
-    let payment = split_payment(alloc, place, transfer, charge, amount, now);
-    batch.add(destination, Item::Charge(payment))?;
-    let given = SignedAmount::given(amount);
-    let source = TxnSource::Payment(place);
-    let txn = split_txn(charge, TxnType::Payment, given, taken.units(), source, now);
-    batch.add(destination, Item::Txn(txn))?;
-    Ok(())
+        transfer_group: copy_text(alloc, charge.transfer_group.as_ref())?,
+    })
 }
 
 // The application fee of a place, of a charge, that is taken from an account.
@@ -180,6 +101,7 @@ fn split_fee(place: u64, account: u64, object: u64, charge: &Charge, taken: Amou
         account,
         charge: object,
         amount: taken,
+        amount_refunded: Amount::new(0),
         currency: charge.currency,
         transaction: place + 1,
         available_on: available_from(&charge.payment_method, now),
@@ -197,7 +119,7 @@ fn add_fee_rows(
     batch: &mut Batch,
 ) -> Result<(), NoMemory>
     requires { place < 2 ^ 63 }
-    ensures { OnOk result (batch.new ≡ with_split (fee_rows place account object charge.now taken batch.old.at) batch.old) }
+    ensures { OnOk result (batch.new ≡ with_new_rows (fee_rows place account object charge.now taken batch.old.at) batch.old) }
 {
     if taken.units() == 0 {
         return Ok(());
@@ -220,7 +142,7 @@ fn add_plain(
     amount: Amount,
     batch: &mut Batch,
 ) -> Result<(), NoMemory>
-    ensures { OnOk result (batch.new ≡ with_split (plain_split account object charge.now amount batch.old.at) batch.old) }
+    ensures { OnOk result (batch.new ≡ with_new_rows (plain_split account object charge.now amount batch.old.at) batch.old) }
 {
     let kept = fee(charge.currency, amount);
     add_charge_row(account, object, charge, amount, kept, batch)
@@ -236,7 +158,7 @@ fn add_direct(
     batch: &mut Batch,
 ) -> Result<(), NoMemory>
     requires { place < 2 ^ 62 }
-    ensures { OnOk result (batch.new ≡ with_split (direct_split place account object charge.now amount batch.old.at) batch.old) }
+    ensures { OnOk result (batch.new ≡ with_new_rows (direct_split place account object charge.now amount batch.old.at) batch.old) }
 {
     let taken = fee_taken(charge, amount);
     let kept = fee(charge.currency, amount) + taken.units();
@@ -256,21 +178,13 @@ fn add_destination(
     batch: &mut Batch,
 ) -> Result<(), NoMemory>
     requires { place < 2 ^ 62 }
-    ensures { OnOk result (batch.new ≡ with_split (destination_split place destination account object charge.now amount batch.old.at) batch.old) }
+    ensures { OnOk result (batch.new ≡ with_new_rows (destination_split place destination account object charge.now amount batch.old.at) batch.old) }
 {
     add_plain(account, object, charge, amount, batch)?;
-    add_transfer_rows(alloc, place + 1, destination, object, charge, amount, batch)?;
+    let now = batch.at();
+    let transfer = split_transfer(alloc, place + 1, destination, object, charge, amount, now)?;
     let taken = fee_taken(charge, amount);
-    add_payment_rows(
-        alloc,
-        place + 3,
-        destination,
-        place + 1,
-        charge,
-        amount,
-        taken,
-        batch,
-    )?;
+    add_transfer(alloc, place + 1, transfer, taken, batch)?;
     add_fee_rows(place + 5, destination, object, charge, taken, batch)
 }
 
@@ -287,7 +201,7 @@ pub fn add_split(
     batch: &mut Batch,
 ) -> Result<(), NoMemory>
     requires { place < 2 ^ 62 }
-    ensures { OnOk result (batch.new ≡ with_split (split_rows place account object charge.now amount batch.old.at) batch.old) }
+    ensures { OnOk result (batch.new ≡ with_new_rows (split_rows place account object charge.now amount batch.old.at) batch.old) }
 {
     match charge.destination {
         Some(to) => add_destination(alloc, place, to, account, object, charge, amount, batch),

@@ -26,6 +26,8 @@ fn told_by(row: &Row) -> Option<Announced>
         | Item::Charge(_)
         | Item::Refund(_)
         | Item::Dispute(_)
+        | Item::Reversal(_)
+        | Item::FeeRefund(_)
         | Item::Txn(_)
         | Item::Event(_) => None,
     }
