@@ -1,5 +1,5 @@
 -- The amounts of charges, transfers, application fees and disputes are sums, and what a row of an entry does to them.
-use Rattle.std.specs.Prelude.{if◌then◌else◌, option_and_then, option_map}
+use Rattle.std.specs.Prelude.{if◌then◌else◌, is_some, ◌||◌, option_and_then, option_map}
 use Rattle.std.proofs.Common.{◌≡◌, ℕ, ◌≤◌, List, [], ◌∷◌, Bool, true, false, Option, None, Some, length, refl, sym, ap, ◌∙◌, subst, arith, ℤ}
 use Rattle.std.proofs.lemmas.Bool.{cond-false, cond-true, eq-eqb, ne_eqb}
 use Rattle.std.proofs.lemmas.Int.{ints}
@@ -23,7 +23,7 @@ use Rattle.ph_facts.specs.Amounts.{Move, captured, captured_by, drawn_by, given_
 use Rattle.ph_facts.specs.Origins.{HasOrigins, charge_named, origins_of}
 use Rattle.ph_facts.specs.Tallies.{Addition}
 use Rattle.ph_facts.proofs.OriginLemmas.{origin_within}
-use Rattle.ph_facts.proofs.TallyLemmas.{AddsToNamed, IsSum}
+use Rattle.ph_facts.proofs.TallyLemmas.{AddsToNamed, IsSum, speaks}
 use Rattle.ph_facts.proofs.VersionLemmas.{fee_refund_is, refund_is, reversal_is, transfer_is, txn_is}
 
 -- ---- how the amounts are added up
@@ -209,3 +209,17 @@ pub transferred_further : (row : Row) (transfer : Transfer) → row.item ≡ ite
 transferred_further row transfer is further =
     ap (λ (o : Item). option_and_then (λ (version : Transfer). if is_first row then drawn_by version else None) (transfer_in o)) is
     ∙ cond-false (is_first row) (drawn_by transfer) None (ne_eqb row.object row.place further)
+
+-- so the first row of a transfer has to do with it, where it is drawn on a charge, and a further version hasn't
+pub first_speaks : (row : Row) (transfer : Transfer) (charge : ℕ) → row.item ≡ item.Transfer transfer → transfer.source ≡ Some charge
+    → row.object ≡ row.place → speaks transferred row ≡ true
+first_speaks row transfer charge is drawn begins =
+    ap (λ (part : Option (Addition ℕ)). is_some part || is_some (transferred.said row.item))
+    (transferred_first row transfer is begins
+    ∙ ap (option_map (λ (number : ℕ). record { object = number; amount = transfer.amount })) drawn)
+
+pub further_is_quiet : (row : Row) (transfer : Transfer) → row.item ≡ item.Transfer transfer → (row.object ≡ row.place → ⊥)
+    → speaks transferred row ≡ false
+further_is_quiet row transfer is further =
+    ap (λ (part : Option (Addition ℕ)). is_some part || is_some (transferred.said row.item)) (transferred_further row transfer is further)
+    ∙ ap (λ (o : Item). is_some (transferred.said o)) is

@@ -2,11 +2,11 @@
 use Rattle.std.specs.Prelude.{is_some, ◌||◌, ◌&&◌}
 use Rattle.std.proofs.Common.{◌≡◌, ℕ, Bool, true, false, cond, eqb, List, [], ◌∷◌, ◌++◌, Option, None, Some, refl, sym, ap, ◌∙◌, subst}
 use Rattle.std.specs.List.{filter, fold, list_any}
-use Rattle.std.proofs.lemmas.Bool.{cond-true, eq-eqb, eqb-false, eqb-true, false≢true, ne_eqb}
+use Rattle.std.proofs.lemmas.Bool.{cond-false, cond-true, eq-eqb, eqb-false, eqb-true, false≢true, ne_eqb}
 use Rattle.std.proofs.lemmas.List.{append_assoc}
 use Rattle.ph_rows.specs.declared.rows.Row.{Row}
 use Rattle.ph_rows.specs.Rows.{later_version, latest_of}
-use Rattle.ph_rows.proofs.RowLemmas.{both_fail, latest_from, latest_of-behind, latest_of-last, neither_part, second_fails}
+use Rattle.ph_rows.proofs.RowLemmas.{both_fail, first_fails, latest_from, latest_of-behind, latest_of-last, neither_part, second_fails}
 use Rattle.ph_facts.specs.Tallies.{SaysSum, SaySums, Tally, given, sum_for}
 use Rattle.ph_facts.proofs.TallyLemmas.{IsSum, gives_nothing, goes_to, says_none, speaks, sum_append, sum_known, sum_stays, touch_none, touches, touches_not}
 
@@ -128,6 +128,23 @@ spoken_among tally rows more sum spoken object touched row amount latest said =
     ∙ sum_append tally object rows heard sum
     ∙ ap (tally.plus (sum_for tally object rows)) (sum_among tally object more sum)
     ∙ sym (sum_append tally object rows more sum)
+
+-- those of some rows, where the first has to do with amounts, where it hasn't, and where none has
+pub heard_with : {A : Type 0} (tally : Tally A) (row : Row) (more : List Row) → speaks tally row ≡ true
+    → filter (speaks tally) (row ∷ more) ≡ row ∷ filter (speaks tally) more
+heard_with tally row more speaking =
+    cond-true (speaks tally row) (row ∷ filter (speaks tally) more) (filter (speaks tally) more) speaking
+
+pub heard_without : {A : Type 0} (tally : Tally A) (row : Row) (more : List Row) → speaks tally row ≡ false
+    → filter (speaks tally) (row ∷ more) ≡ filter (speaks tally) more
+heard_without tally row more quiet =
+    cond-false (speaks tally row) (row ∷ filter (speaks tally) more) (filter (speaks tally) more) quiet
+
+pub heard_none : {A : Type 0} (tally : Tally A) (more : List Row) → list_any (speaks tally) more ≡ false → filter (speaks tally) more ≡ []
+heard_none tally [] none = refl
+heard_none tally (row ∷ more) none =
+    heard_without tally row more (first_fails (speaks tally row) (list_any (speaks tally) more) none)
+    ∙ heard_none tally more (second_fails (speaks tally row) (list_any (speaks tally) more) none)
 
 -- ---- a version of an object, and what is added to it
 
