@@ -21,15 +21,17 @@ use Rattle.ph_calls.specs.declared.call.SetClock.{SetClock}
 use Rattle.ph_calls.specs.declared.row.Name.{Name}
 use Rattle.ph_calls.specs.declared.row.Name.TheVariants as name
 use Rattle.ph_calls.specs.Accounts.{create_account}
-use Rattle.ph_calls.specs.Check.{IsNoCall, first_that_holds, unless_error}
+use Rattle.ph_calls.specs.Check.{IsNoCall, first_that_holds, is_zero, unless_error, zero_error}
 use Rattle.ph_calls.specs.Clock.{set_clock, set_clock_error}
 use Rattle.ph_calls.specs.Disputes.{send_evidence}
+use Rattle.ph_calls.specs.Fees.{refund_fee, refund_fee_error}
 use Rattle.ph_calls.specs.Intents.{authenticate_intent, cancel_intent, capture_intent, confirm_intent, connect_checks, create_intent, create_intent_error, update_intent}
 use Rattle.ph_calls.specs.Parameters.{Parameter, Must, May, Ignored, Takes, given, is_known, may, must, name_of, unknown_error, unless_flawed, unless_missing, with_value}
 use Rattle.ph_calls.specs.Reading.{as_call, call_of, checked, fault_of, form_of, reading_at, reading_by, reading_of}
-use Rattle.ph_calls.specs.Refunds.{create_refund, create_refund_error, is_zero, names_one}
+use Rattle.ph_calls.specs.Refunds.{create_refund, create_refund_error, names_one}
 use Rattle.ph_calls.specs.Routes.{Route, Nowhere, To, route_in}
 use Rattle.ph_calls.specs.Table.{params_of, table}
+use Rattle.ph_calls.specs.Transfers.{create_transfer, create_transfer_error, reverse_transfer, reverse_transfer_error}
 
 -- the errors of the table
 at_400 : (error : ApiError) → error.status ≡ 400 → IsNoCall error
@@ -143,6 +145,12 @@ refund_refused c =
     let all : AllNoCall checks = (missing_error (codes "charge"), (value_error (codes "amount"), tt)) in
     checks_refused checks all
 
+zero_refused : (amount : Option ℕ) → IfSome (zero_error amount) IsNoCall
+zero_refused amount =
+    let checks : List (Bool × ApiError) = (is_zero amount, error_of (InvalidValue (codes "amount"))) ∷ [] in
+    let all : AllNoCall checks = (value_error (codes "amount"), tt) in
+    checks_refused checks all
+
 clock_refused : (c : SetClock) → IfSome (set_clock_error c) IsNoCall
 clock_refused c =
     let checks : List (Bool × ApiError) = (nat_lt clock_limit c.now, error_of (ParameterInvalidInteger (codes "now"))) ∷ [] in
@@ -179,6 +187,15 @@ call_refused account name.SendEvidence id leaves =
 call_refused account name.CloseDispute id leaves = tt
 call_refused account name.CreateAccount id leaves =
     as_refused call.CreateAccount (given (params_of name.CreateAccount) create_account leaves) (given_refused _ (params_of name.CreateAccount) create_account leaves)
+call_refused account name.CreateTransfer id leaves =
+    checked_refused create_transfer_error call.CreateTransfer (given (params_of name.CreateTransfer) create_transfer leaves)
+    (given_refused _ (params_of name.CreateTransfer) create_transfer leaves) (λ c. zero_refused (Some c.amount))
+call_refused account name.ReverseTransfer id leaves =
+    checked_refused reverse_transfer_error call.ReverseTransfer (given (params_of name.ReverseTransfer) (reverse_transfer id) leaves)
+    (given_refused _ (params_of name.ReverseTransfer) (reverse_transfer id) leaves) (λ c. zero_refused c.amount)
+call_refused account name.RefundFee id leaves =
+    checked_refused refund_fee_error call.RefundFee (given (params_of name.RefundFee) (refund_fee id) leaves)
+    (given_refused _ (params_of name.RefundFee) (refund_fee id) leaves) (λ c. zero_refused c.amount)
 call_refused account (name.Retrieve kind) id leaves = tt
 call_refused account name.GetBalance id leaves = tt
 call_refused account name.SetClock id leaves =

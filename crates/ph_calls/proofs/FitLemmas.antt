@@ -38,6 +38,7 @@ use Rattle.ph_calls.specs.Accounts.{create_account}
 use Rattle.ph_calls.specs.Check.{unless_error}
 use Rattle.ph_calls.specs.Clock.{set_clock, set_clock_error}
 use Rattle.ph_calls.specs.Disputes.{send_evidence}
+use Rattle.ph_calls.specs.Fees.{refund_fee, refund_fee_error}
 use Rattle.ph_calls.specs.Fit.{IsFit}
 use Rattle.ph_calls.specs.Intents.{authenticate_intent, cancel_intent, capture_intent, confirm_intent, create_intent, create_intent_error, update_intent}
 use Rattle.ph_calls.specs.Parameters.{Parameter, Must, May, Ignored, Takes, given, may, must, unless_flawed, unless_missing, with_value}
@@ -45,6 +46,7 @@ use Rattle.ph_calls.specs.Reading.{as_call, call_of, checked, form_of, reading_a
 use Rattle.ph_calls.specs.Refunds.{create_refund, create_refund_error}
 use Rattle.ph_calls.specs.Routes.{Route, Nowhere, To, route_in}
 use Rattle.ph_calls.specs.Table.{params_of, table}
+use Rattle.ph_calls.specs.Transfers.{create_transfer, create_transfer_error, reverse_transfer, reverse_transfer_error}
 use Rattle.ph_calls.proofs.LeafLemmas.{AreLeavesUtf8, leaves_utf8}
 
 and : {a b : Bool} → a ≡ true → b ≡ true → (a && b) ≡ true
@@ -283,7 +285,7 @@ call_fit account name.CancelIntent id leaves w =
 call_fit account name.CreateRefund id leaves w =
     checked_fit create_refund_error call.CreateRefund (given (params_of name.CreateRefund) create_refund leaves)
     (given_holds (params_of name.CreateRefund) create_refund (λ c. IsFit (call.CreateRefund c)) leaves w
-    (λ charge _ intent _ amount _ reason _ meta t. record { texts = metadata_texts_utf8 meta t; shown = tt }))
+    (λ charge _ intent _ amount _ reason _ meta t reverse _ give_back _. record { texts = metadata_texts_utf8 meta t; shown = tt }))
 call_fit account name.SendEvidence id leaves w =
     as_call_fit call.SendEvidence (given (params_of name.SendEvidence) (send_evidence id) leaves)
     (given_holds (params_of name.SendEvidence) (send_evidence id) (λ c. IsFit (call.SendEvidence c)) leaves w
@@ -293,6 +295,19 @@ call_fit account name.CreateAccount id leaves w =
     as_call_fit call.CreateAccount (given (params_of name.CreateAccount) create_account leaves)
     (given_holds (params_of name.CreateAccount) create_account (λ c. IsFit (call.CreateAccount c)) leaves w
     (λ type _ email e meta t. record { texts = with_utf8 email (named_texts meta) e (metadata_texts_utf8 meta t); shown = tt }))
+call_fit account name.CreateTransfer id leaves w =
+    checked_fit create_transfer_error call.CreateTransfer (given (params_of name.CreateTransfer) create_transfer leaves)
+    (given_holds (params_of name.CreateTransfer) create_transfer (λ c. IsFit (call.CreateTransfer c)) leaves w
+    (λ amount _ currency _ destination _ source _ description d meta t group g.
+    record { texts = with_utf8 description _ d (with_utf8 group _ g (metadata_texts_utf8 meta t)); shown = tt }))
+call_fit account name.ReverseTransfer id leaves w =
+    checked_fit reverse_transfer_error call.ReverseTransfer (given (params_of name.ReverseTransfer) (reverse_transfer id) leaves)
+    (given_holds (params_of name.ReverseTransfer) (reverse_transfer id) (λ c. IsFit (call.ReverseTransfer c)) leaves w
+    (λ amount _ meta t. record { texts = metadata_texts_utf8 meta t; shown = tt }))
+call_fit account name.RefundFee id leaves w =
+    checked_fit refund_fee_error call.RefundFee (given (params_of name.RefundFee) (refund_fee id) leaves)
+    (given_holds (params_of name.RefundFee) (refund_fee id) (λ c. IsFit (call.RefundFee c)) leaves w
+    (λ amount _ meta t. record { texts = metadata_texts_utf8 meta t; shown = tt }))
 call_fit account (name.Retrieve kind) id leaves w = record { texts = refl; shown = tt }
 call_fit account name.GetBalance id leaves w = record { texts = refl; shown = tt }
 call_fit account name.SetClock id leaves w =

@@ -64,6 +64,7 @@ fn word(name: &str) -> Option<&'static [u8]> {
         }
         "ChargeStatus::Failed" => Some(ChargeStatus::Failed.text()),
         "TxnType::Adjustment" => Some(TxnType::Adjustment.text()),
+        "TxnType::ApplicationFeeRefund" => Some(TxnType::ApplicationFeeRefund.text()),
         "RefundReason::RequestedByCustomer" => Some(RefundReason::RequestedByCustomer.text()),
         "DisputeStatus::NeedsResponse" => Some(DisputeStatus::NeedsResponse.text()),
         _ => None,

@@ -50,6 +50,9 @@ fn methods_of_no_call(rt: HostRuntime) {
         (b"post".as_slice(), b"/v1/payment_intents".as_slice()),
         (b"PUT", b"/v1/payment_intents/x"),
         (b"PUT", b"/v1/refunds"),
+        (b"PUT", b"/v1/transfers"),
+        (b"PUT", b"/v1/transfers/x/reversals"),
+        (b"post", b"/v1/application_fees/x/refunds"),
         (b"PUT", b"/_host/clock"),
     ] {
         is_no_call(&rt, rt.alloc(), method, path);

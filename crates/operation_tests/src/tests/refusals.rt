@@ -50,6 +50,8 @@ fn refunded(
         amount: None,
         reason: None,
         metadata: None,
+        reverse_transfer: false,
+        refund_application_fee: false,
     };
     let mut batch = batch_after(alloc, view);
     refund(alloc, view, 1, &call, &mut batch)
