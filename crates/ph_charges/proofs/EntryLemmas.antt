@@ -1,13 +1,12 @@
 -- Batches stay under way with an approval, a decline and a capture.
-use Rattle.std.specs.Prelude.{◌&&◌, neg_ℤ}
-use Rattle.std.proofs.Common.{◌≡◌, ℕ, ℤ, pos, ◌+◌, ◌^◌, ◌≤◌, ◌<◌, Bool, true, false, List, [], ◌∷◌, ◌++◌, Option, None, Some, length, refl, sym, ap, ◌∙◌, subst, arith}
+use Rattle.std.specs.Prelude.{◌&&◌}
+use Rattle.std.proofs.Common.{◌≡◌, ℕ, pos, ◌+◌, ◌^◌, ◌≤◌, ◌<◌, Bool, true, false, List, [], ◌∷◌, ◌++◌, Option, None, Some, length, refl, sym, ap, ◌∙◌, subst, arith}
 use Rattle.std.specs.List.{list_all}
 use Rattle.std.specs.Str.{is_utf8}
 use Rattle.std.proofs.lemmas.Bool.{false≢true}
 use Rattle.std.proofs.lemmas.List.{length-append, append_assoc}
 use Rattle.ph_base.specs.declared.ids.Kind.{Kind}
 use Rattle.ph_base.specs.declared.ids.Kind.TheVariants as kind
-use Rattle.ph_items.specs.declared.items.Item.{Item}
 use Rattle.ph_items.specs.declared.items.Item.TheVariants as item
 use Rattle.ph_items.specs.declared.charges.Charge.{Charge}
 use Rattle.ph_items.specs.declared.charges.ChargeStatus.TheVariants as status
@@ -16,22 +15,19 @@ use Rattle.ph_items.specs.declared.event_kinds.EventKind.TheVariants as event
 use Rattle.ph_items.specs.declared.intents.CaptureMethod.{CaptureMethod}
 use Rattle.ph_items.specs.declared.intents.CaptureMethod.TheVariants as capture_method
 use Rattle.ph_items.specs.declared.intents.Intent.{Intent}
-use Rattle.ph_items.specs.declared.transactions.TxnSource.{TxnSource}
 use Rattle.ph_items.specs.declared.transactions.TxnSource.TheVariants as source
-use Rattle.ph_items.specs.declared.transactions.TxnType.{TxnType}
+use Rattle.ph_items.specs.declared.transfers.Transfer.{Transfer}
 use Rattle.ph_items.specs.declared.transactions.TxnType.TheVariants as sort
 use Rattle.ph_items.specs.Accounts.{platform}
 use Rattle.ph_items.specs.Charges.{charge_kind}
-use Rattle.ph_items.specs.Transactions.{source_kind, source_number}
 use Rattle.ph_money.specs.Fees.{fee_of}
 use Rattle.ph_items.specs.Kinds.{kind_of}
 use Rattle.ph_items.specs.Weights.{metadata_texts, method_text, texts_of, with_text}
 use Rattle.ph_items.specs.Words.{subject_of}
 use Rattle.ph_rows.specs.declared.rows.Row.{Row}
-use Rattle.ph_rows.specs.Batches.{BatchState, last_place, next_row, with_row, with_announced}
+use Rattle.ph_rows.specs.Batches.{BatchState, last_place, with_row, with_announced}
 use Rattle.ph_rows.specs.Rows.{row_at, latest_of}
 use Rattle.ph_rows.specs.Views.{ViewState}
-use Rattle.ph_rows.proofs.RowLemmas.{row_at-next}
 use Rattle.ph_facts.specs.Order.{IsInOrder, IsWithin, MayFollow}
 use Rattle.ph_facts.specs.Origins.{HasOrigins, IsOrigin, origins_of}
 use Rattle.ph_facts.specs.Sound.{IsSound}
@@ -39,60 +35,17 @@ use Rattle.ph_facts.proofs.BatchLemmas.{first_may_follow, further_may_follow, wi
 use Rattle.ph_facts.proofs.FollowLemmas.{MayStand}
 use Rattle.ph_facts.proofs.EnterLemmas.{row_told}
 use Rattle.ph_facts.proofs.OrderLemmas.{amounts_stand, order_with_all, origins_stand, texts_stand}
-use Rattle.ph_facts.proofs.OriginLemmas.{has_begun_origin, has_begun_still, have_begun-before}
+use Rattle.ph_facts.proofs.OriginLemmas.{has_begun_origin, have_begun-before}
 use Rattle.ph_facts.proofs.SoundLemmas.{latest_of_sound}
 use Rattle.ph_facts.proofs.UnderwayLemmas.{IsUnderway, underway_announced, underway_first, underway_told, underway_with}
 use Rattle.ph_charges.specs.Approvals.{approval_of, charge_number, decline_of, with_approved}
-use Rattle.ph_charges.specs.Charges.{captured_charge, new_charge, next_capture, with_captured, with_fee}
-use Rattle.ph_charges.specs.Splits.{SplitRow, charge_row, destination_split, fee_rows, fee_taken, split_fee, split_payment, split_rows, split_transfer, split_txn, with_split}
-use Rattle.ph_charges.proofs.SplitLemmas.{by_fee, by_kind, captured_has, captured_row, place_after, rows_few}
-
--- ---- the rows of a split may stand, one after another
-
--- an object of a kind has begun among rows
-abbrev Begun : List Row → Kind → ℕ → Type 0
-Begun rows kind number = IsOrigin (row_at number rows) (record { kind = kind; number = number })
-
--- the batch with a row more, the first version of a new object
-abbrev after : BatchState → SplitRow → BatchState
-after batch row = with_row batch (last_place batch + 1) row.account row.item
-
--- an object has begun with a row more
-still_begun : (rows : List Row) (batch : BatchState) (row : SplitRow) (kind : Kind) (number : ℕ)
-    → Begun (rows ++ batch.rows) kind number → Begun (rows ++ (after batch row).rows) kind number
-still_begun rows batch row kind number begun =
-    let new = next_row batch (last_place batch + 1) row.account row.item in
-    subst (λ (all : List Row). Begun all kind number) (append_assoc rows batch.rows (new ∷ []))
-    (has_begun_still (rows ++ batch.rows) (new ∷ []) (record { kind = kind; number = number }) begun)
-
--- and the object of that row has, where it has this number
-last_begun : (rows : List Row) (batch : BatchState) (row : SplitRow) (number : ℕ) → batch.began ≡ length rows
-    → last_place batch + 1 ≡ number → Begun (rows ++ (after batch row).rows) (kind_of row.item) number
-last_begun rows batch row number began is =
-    let new = next_row batch (last_place batch + 1) row.account row.item in
-    let count : length (rows ++ batch.rows) ≡ length rows + length batch.rows = length-append rows batch.rows in
-    let place : number ≡ length (rows ++ batch.rows) + 1 = omega arith in
-    subst (λ (all : List Row). Begun all (kind_of row.item) number) (append_assoc rows batch.rows (new ∷ []))
-    (subst (λ (found : Option Row). IsOrigin found (record { kind = kind_of row.item; number = number }))
-    (sym (ap (λ (p : ℕ). row_at p ((rows ++ batch.rows) ++ new ∷ [])) place ∙ row_at-next (rows ++ batch.rows) new))
-    (record { object = is; kind = refl }))
-
--- the number behind a row
-next_number : (batch : BatchState) (row : SplitRow) (number : ℕ) → last_place batch + 1 ≡ number
-    → last_place (after batch row) + 1 ≡ number + 1
-next_number batch row number is =
-    let longer = place_after batch (last_place batch + 1) row.account row.item in omega arith
-
--- a transaction may stand where its source has begun
-txn_stands : (rows : List Row) (charge : Charge) (sort : TxnType) (amount : ℤ) (fee : ℕ) (from : TxnSource) (now : ℕ)
-    → Begun rows (source_kind from) (source_number from) → MayStand rows (item.Txn (split_txn charge sort amount fee from now))
-txn_stands rows charge sort amount fee from now begun =
-    record { texts = refl; within = tt; origins = (begun, tt); silent = λ event is. absurd (cc) }
-
--- the rows of a split may stand behind a batch
-abbrev AllStand : ViewState → BatchState → List SplitRow → Type 0
-AllStand state batch [] = Unit {0}
-AllStand state batch (row ∷ split) = MayStand (state.rows ++ batch.rows) row.item × AllStand state (after batch row) split
+use Rattle.ph_charges.specs.Charges.{captured_charge, drawn_by_capture, new_charge, next_capture, with_captured, with_fee}
+use Rattle.ph_charges.specs.NewRows.{NewRow, with_new_rows}
+use Rattle.ph_charges.specs.Splits.{charge_row, destination_split, fee_rows, fee_taken, split_fee, split_rows, split_transfer, split_txn}
+use Rattle.ph_charges.specs.Transfers.{transfer_rows}
+use Rattle.ph_charges.proofs.NewRowLemmas.{AllStand, Begun, after, last_begun, new_rows_underway, next_number, place_after, still_begun, txn_stands}
+use Rattle.ph_charges.proofs.SplitLemmas.{by_fee, by_kind, captured_has, captured_row, rows_few}
+use Rattle.ph_charges.proofs.TransferLemmas.{begun_with_transfer, next_behind, transfer_stands}
 
 -- an application fee, where one is taken
 fees_stand : (state : ViewState) (batch : BatchState) (place account object : ℕ) (charge : Charge) (taken now : ℕ)
@@ -100,15 +53,15 @@ fees_stand : (state : ViewState) (batch : BatchState) (place account object : �
     → AllStand state batch (fee_rows place account object charge taken now)
 fees_stand state batch place account object charge taken now began is begun =
     by_fee (AllStand state batch) place account object charge taken now tt (
-      record { texts = refl; within = tt; origins = (begun, tt); silent = λ event same. absurd (cc) },
+      record { texts = refl; within = omega arith; origins = (begun, tt); silent = λ event same. absurd (cc) },
       (
-        txn_stands (state.rows ++ (after batch fee).rows) charge sort.ApplicationFee (pos taken) 0 (source.Fee place) now
+        txn_stands (state.rows ++ (after batch fee).rows) (split_txn charge sort.ApplicationFee (pos taken) 0 (source.Fee place) now)
             (last_begun state.rows batch fee place began is),
         tt,
       ),
     )
   where
-    fee : SplitRow
+    fee : NewRow
     fee = record { account = platform; item = item.Fee (split_fee place account object charge taken now) }
 
 -- the texts of a charge are UTF-8, and so is its transfer group
@@ -145,92 +98,34 @@ splits_stand state batch place account object charge amount now began is begun t
     )
     to
   where
-    row : ℕ → SplitRow
+    row : ℕ → NewRow
     row kept = charge_row account object charge amount kept now
 
     first : (kept : ℕ) → MayStand (state.rows ++ batch.rows) (row kept).item
-    first kept = txn_stands (state.rows ++ batch.rows) charge sort.Charge (pos amount) kept (source.Charge object) now begun
+    first kept = txn_stands (state.rows ++ batch.rows) (split_txn charge sort.Charge (pos amount) kept (source.Charge object) now) begun
 
     to : (destination : ℕ) → AllStand state batch (destination_split place destination account object charge amount now)
     to destination = (
       first (fee_of charge.currency amount),
-      (
-        record { texts = group_utf8 charge texts; within = tt; origins = (begun1, tt); silent = λ event same. absurd (cc) },
-        (
-          txn_stands (state.rows ++ b2.rows) charge sort.Transfer (neg_ℤ (pos amount)) 0 (source.Transfer (place + 1)) now transfer_begun,
-          (
-            record { texts = refl; within = record { captured = omega arith; refunded = omega arith }; origins = (still_begun state.rows b2 r2 kind.Transfer (place + 1) transfer_begun, tt); silent = λ event same. absurd (cc) },
-            (
-              txn_stands (state.rows ++ b4.rows) charge sort.Payment (pos amount) (fee_taken charge amount) (source.Payment (place + 3)) now
-                  (last_begun state.rows b3 r3 (place + 3) began n3),
-              fees_stand state b5 (place + 5) destination object charge (fee_taken charge amount) now began n5 begun5,
-            ),
-          ),
-        ),
-      ),
+      transfer_stands state own (place + 1) transfer (fee_taken charge amount)
+          (fee_rows (place + 5) destination object charge (fee_taken charge amount) now) began next (group_utf8 charge texts) (omega arith) (begun1, tt)
+          (fees_stand state (with_new_rows (transfer_rows (place + 1) transfer (fee_taken charge amount)) own) (place + 5) destination object charge
+          (fee_taken charge amount) now began
+          (let behind = next_behind own (place + 1) transfer (fee_taken charge amount) next in omega arith)
+          (begun_with_transfer state own (place + 1) transfer (fee_taken charge amount) kind.Charge object begun1)),
     )
       where
-        r0 : SplitRow
-        r0 = row (fee_of charge.currency amount)
+        transfer : Transfer
+        transfer = split_transfer (place + 1) destination object charge amount now
 
-        r1 : SplitRow
-        r1 = record { account = platform; item = item.Transfer (split_transfer (place + 1) destination object charge amount now) }
+        own : BatchState
+        own = after batch (row (fee_of charge.currency amount))
 
-        r2 : SplitRow
-        r2 = record { account = platform; item = item.Txn (split_txn charge sort.Transfer (neg_ℤ (pos amount)) 0 (source.Transfer (place + 1)) now) }
+        next : last_place own + 1 ≡ place + 1
+        next = next_number batch (row (fee_of charge.currency amount)) place is
 
-        r3 : SplitRow
-        r3 = record { account = destination; item = item.Charge (split_payment (place + 3) (place + 1) charge amount now) }
-
-        r4 : SplitRow
-        r4 = record { account = destination; item = item.Txn (split_txn charge sort.Payment (pos amount) (fee_taken charge amount) (source.Payment (place + 3)) now) }
-
-        b1 : BatchState
-        b1 = after batch r0
-
-        b2 : BatchState
-        b2 = after b1 r1
-
-        b3 : BatchState
-        b3 = after b2 r2
-
-        b4 : BatchState
-        b4 = after b3 r3
-
-        b5 : BatchState
-        b5 = after b4 r4
-
-        n1 : last_place b1 + 1 ≡ place + 1
-        n1 = next_number batch r0 place is
-
-        n3 : last_place b3 + 1 ≡ place + 3
-        n3 = let two = next_number b1 r1 (place + 1) n1 in let three = next_number b2 r2 (place + 1 + 1) two in omega arith
-
-        n5 : last_place b5 + 1 ≡ place + 5
-        n5 = let four = next_number b3 r3 (place + 3) n3 in let five = next_number b4 r4 (place + 3 + 1) four in omega arith
-
-        begun1 : Begun (state.rows ++ b1.rows) kind.Charge object
-        begun1 = still_begun state.rows batch r0 kind.Charge object begun
-
-        begun5 : Begun (state.rows ++ b5.rows) kind.Charge object
-        begun5 =
-            still_begun state.rows b4 r4 kind.Charge object (still_begun state.rows b3 r3 kind.Charge object
-            (still_begun state.rows b2 r2 kind.Charge object (still_begun state.rows b1 r1 kind.Charge object begun1)))
-
-        transfer_begun : Begun (state.rows ++ b2.rows) kind.Transfer (place + 1)
-        transfer_begun = last_begun state.rows b1 r1 (place + 1) began n1
-
--- a batch stays under way with rows that may stand
-split_underway : (state : ViewState) (batch : BatchState) (split : List SplitRow) → IsInOrder state → IsUnderway state batch
-    → length state.rows + length batch.rows + length split < 10 ^ 16 → AllStand state batch split
-    → IsUnderway state (with_split split batch)
-split_underway state batch [] order underway few stand = underway
-split_underway state batch (row ∷ split) order underway few stand =
-    let new = next_row batch (last_place batch + 1) row.account row.item in
-    let longer : length (batch.rows ++ new ∷ []) ≡ length batch.rows + 1 = length-append batch.rows (new ∷ []) in
-    let count : length (row ∷ split) ≡ length split + 1 = omega arith in
-    split_underway state (after batch row) split order
-    (underway_first state batch row.account row.item order underway (omega arith) stand.0) (omega arith) stand.1
+        begun1 : Begun (state.rows ++ own.rows) kind.Charge object
+        begun1 = still_begun state.rows batch (row (fee_of charge.currency amount)) kind.Charge object begun
 
 -- a batch stays under way with a version of a card charge that may follow its rows, its split, and what is told of it
 captured_underway : (state : ViewState) (batch : BatchState) (account object : ℕ) (charge : Charge) (amount : ℕ) (sort : EventKind)
@@ -271,24 +166,35 @@ captured_underway state batch account object charge amount sort order underway f
         let longer : length (batch.rows ++ row ∷ []) ≡ length batch.rows + 1 = length-append batch.rows (row ∷ []) in
         let most : length (split_rows (last_place batch + 2) account object charge amount batch.at) ≤ 7 =
         rows_few (last_place batch + 2) account object charge amount batch.at in
-        split_underway state begins (split_rows (last_place batch + 2) account object charge amount batch.at) order underway1 (omega arith)
+        new_rows_underway state begins (split_rows (last_place batch + 2) account object charge amount batch.at) order underway1 (omega arith)
         (splits_stand state begins (last_place batch + 2) account object charge amount batch.at underway.continues.began next begun texts)
 
--- a charge of which nothing was captured or refunded
+-- a charge of which nothing was captured, refunded or transferred
 pub record IsNew (charge : Charge) : Type 0 where
   pub captured : charge.amount_captured ≡ 0
   pub refunded : charge.amount_refunded ≡ 0
+  pub transferred : charge.amount_transferred ≡ 0
 
 -- its amounts fit one another, also where no more of it is captured than the acquirer was asked for
 new_fits : (charge : Charge) → IsNew charge → IsWithin charge
 new_fits charge new =
     let captured = new.captured in
     let refunded = new.refunded in
-    record { captured = omega arith; refunded = omega arith }
+    let transferred = new.transferred in
+    record { captured = omega arith; refunded = omega arith; transferred = omega arith }
+
+-- no more is drawn by a capture than it captures
+drawn_within : (destination : Option ℕ) (amount : ℕ) → drawn_by_capture destination amount ≤ amount
+drawn_within None amount = omega arith
+drawn_within (Some account) amount = omega arith
 
 captured_fits : (account : ℕ) (charge : Charge) (amount : ℕ) (batch : BatchState) → charge.amount_refunded ≡ 0 → amount ≤ charge.amount
     → IsWithin (captured_charge amount (next_capture account charge amount batch) charge)
-captured_fits account charge amount batch none within = record { captured = within; refunded = omega arith }
+captured_fits account charge amount batch none within = record {
+  captured = within;
+  refunded = omega arith;
+  transferred = drawn_within charge.destination amount;
+}
 
 -- a new card charge that is approved, captured at once or held, and what is told of it
 approved_underway : (capture : CaptureMethod) (state : ViewState) (batch : BatchState) (account : ℕ) (charge : Charge)
@@ -338,8 +244,8 @@ pub approval_underway : (state : ViewState) (batch : BatchState) (account object
     → IsUnderway state (approval_of account object intent batch)
 approval_underway state batch account object intent order underway few texts begun =
     let charge = new_charge object intent status.Succeeded in
-    approved_underway intent.capture_method state batch account charge order underway few refl (record { captured = refl; refunded = refl })
-    (new_stands (state.rows ++ batch.rows) object intent charge (record { captured = refl; refunded = refl }) texts (begun, tt))
+    approved_underway intent.capture_method state batch account charge order underway few refl (record { captured = refl; refunded = refl; transferred = refl })
+    (new_stands (state.rows ++ batch.rows) object intent charge (record { captured = refl; refunded = refl; transferred = refl }) texts (begun, tt))
 
 -- and with a decline
 pub decline_underway : (state : ViewState) (batch : BatchState) (account object : ℕ) (intent : Intent) → IsInOrder state
@@ -351,7 +257,7 @@ decline_underway state batch account object intent order underway few texts begu
     let charge = new_charge object intent status.Failed in
     underway_told state batch (charge_number batch) account (item.Charge charge) event.ChargeFailed
     (underway_first state batch account (item.Charge charge) order underway (omega arith)
-    (new_stands (state.rows ++ batch.rows) object intent charge (record { captured = refl; refunded = refl }) texts (begun, tt))) refl
+    (new_stands (state.rows ++ batch.rows) object intent charge (record { captured = refl; refunded = refl; transferred = refl }) texts (begun, tt))) refl
 
 -- and with a capture of a card charge that stands in the view, of which nothing was captured, of no more than was authorised
 pub capture_underway : (state : ViewState) (batch : BatchState) (n amount : ℕ) (fee : Option ℕ) (row : Row) (charge : Charge) → IsSound state

@@ -1,11 +1,10 @@
 -- The rows of a split: how they stand in a batch, and what the kinds of splits have in common.
 use Rattle.std.specs.Prelude.{slice_get, ◌==◌}
-use Rattle.std.proofs.Common.{◌≡◌, ℕ, suc, ◌+◌, ◌≤◌, ◌<◌, Bool, true, false, cond, List, [], ◌∷◌, ◌++◌, Option, None, Some, length, refl, sym, ap, ◌∙◌, subst, arith}
-use Rattle.std.proofs.lemmas.List.{append-nil, append_assoc, length-append}
+use Rattle.std.proofs.Common.{◌≡◌, ℕ, ◌+◌, ◌≤◌, ◌<◌, Bool, true, false, cond, List, [], ◌∷◌, ◌++◌, Option, None, Some, length, refl, sym, ap, ◌∙◌, subst, arith}
+use Rattle.std.proofs.lemmas.List.{append_assoc, length-append}
 use Rattle.ph_items.specs.declared.accounts.AccountType.TheVariants as account_type
 use Rattle.ph_items.specs.declared.charges.Charge.{Charge}
 use Rattle.ph_items.specs.declared.event_kinds.EventKind.TheVariants as event
-use Rattle.ph_items.specs.declared.items.Item.{Item}
 use Rattle.ph_items.specs.declared.items.Item.TheVariants as item
 use Rattle.ph_items.specs.declared.transactions.TxnSource.TheVariants as source
 use Rattle.ph_items.specs.declared.transactions.TxnType.TheVariants as sort
@@ -21,20 +20,22 @@ use Rattle.ph_facts.specs.Shown.{shown_in}
 use Rattle.ph_facts.proofs.HeldLemmas.{AllLeave, IsApart, later_is_loose}
 use Rattle.ph_facts.proofs.DoneLemmas.{shown_before}
 use Rattle.ph_charges.specs.Charges.{captured_charge, next_capture, with_captured}
-use Rattle.ph_charges.specs.Splits.{SplitRow, destination_split, direct_split, fee_rows, fee_taken, plain_split, split_fee, split_rows, split_to, split_txn, with_split}
+use Rattle.ph_charges.specs.NewRows.{NewRow}
+use Rattle.ph_charges.specs.Splits.{destination_split, direct_split, fee_rows, fee_taken, plain_split, split_fee, split_rows, split_to, split_txn}
 use Rattle.ph_charges.specs.Told.{split_events}
+use Rattle.ph_charges.proofs.NewRowLemmas.{new_rows_are, new_rows_silent, place_after, rows_as_many, rows_from}
 use Rattle.ph_charges.proofs.TellLemmas.{events_both}
 
 -- ---- their kinds
 
 -- an application fee and its transaction
-abbrev pub fee_pair : ℕ → ℕ → ℕ → Charge → ℕ → ℕ → List SplitRow
+abbrev pub fee_pair : ℕ → ℕ → ℕ → Charge → ℕ → ℕ → List NewRow
 fee_pair place account object charge taken now =
     record { account = platform; item = item.Fee (split_fee place account object charge taken now) } ∷
     record { account = platform; item = item.Txn (split_txn charge sort.ApplicationFee (pos taken) 0 (source.Fee place) now) } ∷ []
 
 -- what holds where no fee is taken, and where one is
-pub by_fee : (P : List SplitRow → Type 0) (place account object : ℕ) (charge : Charge) (taken now : ℕ) → P []
+pub by_fee : (P : List NewRow → Type 0) (place account object : ℕ) (charge : Charge) (taken now : ℕ) → P []
     → P (fee_pair place account object charge taken now) → P (fee_rows place account object charge taken now)
 by_fee P place account object charge taken now none some = at (taken == 0)
   where
@@ -42,52 +43,28 @@ by_fee P place account object charge taken now none some = at (taken == 0)
     at true = none
     at false = some
 
--- what holds of each kind of a split
-pub by_kind : (P : List SplitRow → Type 0) (place account object : ℕ) (charge : Charge) (amount now : ℕ)
-    → P (plain_split account object charge amount now) → P (direct_split place account object charge amount now)
-    → ((destination : ℕ) → P (destination_split place destination account object charge amount now))
-    → P (split_rows place account object charge amount now)
-by_kind P place account object charge amount now plain direct to = at charge.destination
+-- what holds of each kind of a split, by the destination of the charge
+pub by_destination : (P : Option ℕ → List NewRow → Type 0) (place account object : ℕ) (charge : Charge) (amount now : ℕ)
+    → P None (plain_split account object charge amount now) → P None (direct_split place account object charge amount now)
+    → ((destination : ℕ) → P (Some destination) (destination_split place destination account object charge amount now))
+    → P charge.destination (split_rows place account object charge amount now)
+by_destination P place account object charge amount now plain direct to = at charge.destination
   where
-    of_account : (b : Bool) → P (cond b (plain_split account object charge amount now) (direct_split place account object charge amount now))
+    of_account : (b : Bool) → P None (cond b (plain_split account object charge amount now) (direct_split place account object charge amount now))
     of_account true = plain
     of_account false = direct
 
-    at : (destination : Option ℕ) → P (split_to destination place account object charge amount now)
+    at : (destination : Option ℕ) → P destination (split_to destination place account object charge amount now)
     at None = of_account (account == platform)
     at (Some destination) = to destination
 
--- ---- how they stand
-
--- they stand at a time from a place on, each the first version of its object
-abbrev pub rows_from : ℕ → ℕ → List SplitRow → List Row
-rows_from place at [] = []
-rows_from place at (row ∷ split) =
-    record { place = place; object = place; at = at; account = row.account; item = row.item } ∷ rows_from (place + 1) at split
-
--- a row more
-pub place_after : (batch : BatchState) (object account : ℕ) (content : Item)
-    → last_place (with_row batch object account content) ≡ last_place batch + 1
-place_after batch object account content =
-    let longer : length (batch.rows ++ next_row batch object account content ∷ []) ≡ length batch.rows + 1 =
-    length-append batch.rows (next_row batch object account content ∷ []) in
-    omega arith
-
--- the rows of a batch with a split
-pub split_is : (split : List SplitRow) (batch : BatchState)
-    → (with_split split batch).rows ≡ batch.rows ++ rows_from (last_place batch + 1) batch.at split
-split_is [] batch = sym (append-nil batch.rows)
-split_is (row ∷ split) batch =
-    let n = last_place batch + 1 in
-    let new = next_row batch n row.account row.item in
-    split_is split (with_row batch n row.account row.item)
-    ∙ ap (λ (p : ℕ). (batch.rows ++ new ∷ []) ++ rows_from (p + 1) batch.at split) (place_after batch n row.account row.item)
-    ∙ append_assoc batch.rows (new ∷ []) (rows_from (n + 1) batch.at split)
-
--- it announces nothing
-pub split_silent : (split : List SplitRow) (batch : BatchState) → (with_split split batch).announced ≡ batch.announced
-split_silent [] batch = refl
-split_silent (row ∷ split) batch = split_silent split (with_row batch (last_place batch + 1) row.account row.item)
+-- what holds of each kind of a split
+pub by_kind : (P : List NewRow → Type 0) (place account object : ℕ) (charge : Charge) (amount now : ℕ)
+    → P (plain_split account object charge amount now) → P (direct_split place account object charge amount now)
+    → ((destination : ℕ) → P (destination_split place destination account object charge amount now))
+    → P (split_rows place account object charge amount now)
+by_kind P place account object charge amount now plain direct to =
+    by_destination (λ destination split. P split) place account object charge amount now plain direct to
 
 -- the row of a charge of which an amount is captured
 abbrev pub captured_row : ℕ → ℕ → Charge → ℕ → BatchState → Row
@@ -108,7 +85,7 @@ captured_is account object charge amount batch =
     let split = split_rows (last_place batch + 2) account object charge amount batch.at in
     let next : last_place (with_row batch object account row.item) + 1 ≡ last_place batch + 2 =
     (let after = place_after batch object account row.item in omega arith) in
-    split_is split (with_row batch object account row.item)
+    new_rows_are split (with_row batch object account row.item)
     ∙ ap (λ (p : ℕ). (batch.rows ++ row ∷ []) ++ rows_from p batch.at split) next
     ∙ append_assoc batch.rows (row ∷ []) (split_behind account object charge amount batch)
 
@@ -117,7 +94,7 @@ pub captured_silent : (account object : ℕ) (charge : Charge) (amount : ℕ) (b
     → (with_captured account object charge amount batch).announced ≡ batch.announced
 captured_silent account object charge amount batch =
     let row = captured_row account object charge amount batch in
-    split_silent (split_rows (last_place batch + 2) account object charge amount batch.at) (with_row batch object account row.item)
+    new_rows_silent (split_rows (last_place batch + 2) account object charge amount batch.at) (with_row batch object account row.item)
 
 -- the row of the charge stands behind those of the batch
 pub captured_has : (account object : ℕ) (charge : Charge) (amount : ℕ) (batch : BatchState)
@@ -134,7 +111,7 @@ captured_has account object charge amount batch =
 -- ---- what every split has in common
 
 -- a row of it
-a_row : SplitRow
+a_row : NewRow
 a_row = record { account = platform; item = item.Account (record { sort = account_type.Standard; email = None; metadata = [] }) }
 
 -- it has at most seven rows
@@ -145,11 +122,6 @@ rows_few place account object charge amount now =
     (by_fee (λ fees. length (a_row ∷ fees) ≤ 7) (place + 1) account object charge (fee_taken charge amount) now (omega arith) (omega arith))
     (λ destination. by_fee (λ fees. length (a_row ∷ a_row ∷ a_row ∷ a_row ∷ a_row ∷ fees) ≤ 7) (place + 5) destination object charge
     (fee_taken charge amount) now (omega arith) (omega arith))
-
--- and stands as as many
-rows_as_many : (place at : ℕ) (split : List SplitRow) → length (rows_from place at split) ≡ length split
-rows_as_many place at [] = refl
-rows_as_many place at (row ∷ split) = ap (λ n. suc n) (rows_as_many (place + 1) at split)
 
 -- it shows nothing of payment intents and attempts
 pub split_shows : (place account object : ℕ) (charge : Charge) (amount now p at : ℕ)
@@ -181,7 +153,7 @@ split_leaves state other place account object charge amount now p at order held 
       (tt, (tt, (later_is_loose state (p + 1 + 1 + 1) order held (omega arith) other, (tt, by_fee (λ fees. AllLeave state.rows other (rows_from (p + 1 + 1 + 1 + 1 + 1) at fees)) (place + 5) destination object charge (fee_taken charge amount) now tt (tt, (tt, tt)))))),
     ))
   where
-    plain : SplitRow
+    plain : NewRow
     plain = record { account = account; item = item.Txn (split_txn charge sort.Charge (pos amount) 0 (source.Charge object) now) }
 
 -- ---- what a capture adds

@@ -1,12 +1,10 @@
 -- The rows keep the laws with what an approval, a decline and a capture add.
-use Rattle.std.proofs.Common.{◌≡◌, ℕ, ℤ, ◌+◌, ◌≤◌, ◌<◌, Bool, true, false, eqb, List, [], ◌∷◌, ◌++◌, Option, None, Some, length, sym, refl, ap, ◌∙◌, subst, arith, pos, ◌+ℤ◌}
+use Rattle.std.proofs.Common.{◌≡◌, ℕ, ◌+◌, ◌≤◌, ◌<◌, false, cond, eqb, List, [], ◌∷◌, ◌++◌, Option, None, Some, length, sym, refl, ap, ◌∙◌, subst, arith, pos, ◌+ℤ◌}
 use Rattle.std.specs.Prelude.{is_some, ◌||◌}
-use Rattle.std.specs.List.{list_any}
+use Rattle.std.specs.List.{filter, list_any}
 use Rattle.std.specs.Option.{option_or}
-use Rattle.std.proofs.lemmas.Bool.{cond-true, cond-false, eq-eqb, ne_eqb}
+use Rattle.std.proofs.lemmas.Bool.{cond-false, ne_eqb}
 use Rattle.std.proofs.lemmas.Int.{ints}
-use Rattle.std.proofs.lemmas.List.{append_assoc, length-append}
-use Rattle.std.proofs.lemmas.List.Sums.{fold_push}
 use Rattle.ph_items.specs.declared.items.Item.{Item}
 use Rattle.ph_items.specs.declared.items.Item.TheVariants as item
 use Rattle.ph_items.specs.declared.charges.Charge.{Charge}
@@ -15,32 +13,38 @@ use Rattle.ph_items.specs.declared.event_kinds.EventKind.TheVariants as event
 use Rattle.ph_items.specs.declared.intents.CaptureMethod.{CaptureMethod}
 use Rattle.ph_items.specs.declared.intents.CaptureMethod.TheVariants as capture_method
 use Rattle.ph_items.specs.declared.intents.Intent.{Intent}
-use Rattle.ph_items.specs.declared.transactions.Txn.{Txn}
 use Rattle.ph_items.specs.declared.transactions.TxnSource.TheVariants as source
 use Rattle.ph_items.specs.declared.transactions.TxnType.TheVariants as sort
+use Rattle.ph_items.specs.declared.transfers.Transfer.{Transfer}
 use Rattle.ph_money.specs.Fees.{fee_of}
+use Rattle.ph_items.specs.Accounts.{platform}
 use Rattle.ph_items.specs.Items.{charge_in}
 use Rattle.ph_rows.specs.declared.rows.Row.{Row}
 use Rattle.ph_rows.specs.Batches.{BatchState, last_place, with_row, with_announced}
-use Rattle.ph_rows.specs.Rows.{row_at, later_version, latest_of}
+use Rattle.ph_rows.specs.Rows.{row_at, latest_of}
 use Rattle.ph_rows.specs.Views.{ViewState}
-use Rattle.ph_rows.proofs.RowLemmas.{neither_part, row_at_within}
-use Rattle.ph_facts.specs.Amounts.{Move, captured, captured_of, moved, refunded, refunded_of}
+use Rattle.ph_rows.proofs.RowLemmas.{row_at_within}
+use Rattle.ph_facts.specs.Amounts.{captured, captured_of, given_back, given_back_of, moved, refunded, refunded_of, reversed, transferred, transferred_of}
 use Rattle.ph_facts.specs.Held.{AreHeld}
 use Rattle.ph_facts.specs.Order.{IsWithin}
 use Rattle.ph_facts.specs.Sound.{IsSound, KeepLaws}
 use Rattle.ph_facts.specs.Tallies.{Addition, given}
-use Rattle.ph_facts.proofs.AmountLemmas.{captured_named, captured_sum, refunded_named, refunded_sum}
-use Rattle.ph_facts.proofs.LawLemmas.{Kept, SaysSums, amounts_kept, charge_untouched, first_of_none, is_of_amounts, kept_both, kept_none, kept_one, laws_by, second_of_none, touches_charge}
+use Rattle.ph_facts.proofs.AmountLemmas.{captured_sum, given_back_sum, refunded_sum, reversed_sum, transferred_first, transferred_sum}
+use Rattle.ph_facts.proofs.LawLemmas.{AreSpoken, Kept, SaysSums, amounts_kept, charges_none, is_of_amounts, kept_both, kept_none, kept_spoken, laws_by}
 use Rattle.ph_facts.proofs.OrderLemmas.{amounts_stand}
 use Rattle.ph_facts.proofs.SoundLemmas.{latest_of_sound}
-use Rattle.ph_facts.proofs.TallyLemmas.{goes_to, speaks, sum_append, sum_apart, sum_known, sum_later, touches}
+use Rattle.ph_facts.proofs.SpokenLemmas.{Spoken, spoken_adding, spoken_among, spoken_both, spoken_none, spoken_version}
+use Rattle.ph_facts.proofs.TallyLemmas.{speaks, sum_append}
 use Rattle.ph_charges.specs.Approvals.{approval_of, charge_number, decline_of, with_approved}
 use Rattle.ph_charges.specs.Captures.{capture_of, with_capture_in, with_capture_of}
-use Rattle.ph_charges.specs.Charges.{captured_charge, new_charge, next_capture, with_captured, with_fee}
-use Rattle.ph_charges.specs.Splits.{destination_split, fee_rows, fee_taken, payment_rows, split_payment, split_rows, split_txn, transfer_rows}
-use Rattle.ph_charges.proofs.SplitLemmas.{by_fee, by_kind, captured_is, captured_row, rows_from, split_behind}
+use Rattle.ph_charges.specs.Charges.{captured_charge, drawn_by_capture, new_charge, next_capture, with_captured, with_fee}
+use Rattle.ph_charges.specs.Splits.{destination_split, fee_rows, fee_taken, split_fee, split_rows, split_transfer, split_txn}
+use Rattle.ph_charges.specs.Transfers.{transfer_rows}
+use Rattle.ph_charges.proofs.AmountLemmas.{IsFree, IsUnused, free_with, given_back_beside, later_is_unused, new_is_unused}
 use Rattle.ph_charges.proofs.EntryLemmas.{IsNew}
+use Rattle.ph_charges.proofs.NewRowLemmas.{row_here, rows_from}
+use Rattle.ph_charges.proofs.SplitLemmas.{by_destination, by_fee, fee_pair, captured_is, captured_row, split_behind}
+use Rattle.ph_charges.proofs.TransferLemmas.{arriving_row, own_row, payment_captures, payment_refunds, payment_row, payment_transfers}
 
 -- a row of a charge
 abbrev charge_row : ℕ → ℕ → ℕ → ℕ → Charge → Row
@@ -52,218 +56,191 @@ charge_row place object at account charge = record {
   item = item.Charge charge;
 }
 
--- a row of a transaction
-abbrev txn_row : ℕ → ℕ → ℕ → ℕ → Txn → Row
-txn_row place object at account txn = record {
-  place = place;
-  object = object;
-  at = at;
-  account = account;
-  item = item.Txn txn;
-}
-
--- the present version of a charge that stands behind rows
-latest_new : (rows : List Row) (n p a k : ℕ) (charge : Charge)
-    → latest_of n (rows ++ charge_row p n a k charge ∷ []) ≡ Some (charge_row p n a k charge)
-latest_new rows n p a k charge =
-    fold_push (later_version n) None rows (charge_row p n a k charge)
-    ∙ cond-true (eqb n n) (Some (charge_row p n a k charge)) (latest_of n rows) (eq-eqb n n refl)
-
--- nothing was captured or refunded of a charge in rows
-pub record IsFree (n : ℕ) (rows : List Row) : Type 0 where
-  pub captured : captured_of n rows ≡ pos 0
-  pub refunded : refunded_of n rows ≡ 0
-
--- nor in more that have nothing to do with it
-free_with : (n : ℕ) (rows more : List Row) → IsFree n rows → list_any (touches_charge n) more ≡ false → IsFree n (rows ++ more)
-free_with n rows more free apart =
-    let was_captured : captured_of n rows ≡ pos 0 = free.captured in
-    let was_refunded : refunded_of n rows ≡ 0 = free.refunded in
-    let captures : captured_of n (rows ++ more) ≡ captured_of n rows +ℤ captured_of n more = sum_append captured n rows more captured_sum in
-    let refunds : refunded_of n (rows ++ more) ≡ refunded_of n rows + refunded_of n more = sum_append refunded n rows more refunded_sum in
-    let no_capture : captured_of n more ≡ pos 0 = sum_apart captured n more captured_sum (first_of_none (touches captured n) (touches refunded n) more apart) in
-    let no_refund : refunded_of n more ≡ 0 = sum_apart refunded n more refunded_sum (second_of_none (touches captured n) (touches refunded n) more apart) in
-    record { captured = omega (arith, ints); refunded = omega arith }
-
--- rows with a version of a charge behind them, of which nothing was captured or refunded
-held_sums : (rows : List Row) (n p a k : ℕ) (charge : Charge) → IsFree n rows → IsNew charge
-    → SaysSums n (rows ++ charge_row p n a k charge ∷ [])
-held_sums rows n p a k charge free new =
-    let was_captured : captured_of n rows ≡ pos 0 = free.captured in
-    let was_refunded : refunded_of n rows ≡ 0 = free.refunded in
-    let no_capture : charge.amount_captured ≡ 0 = new.captured in
-    let no_refund : charge.amount_refunded ≡ 0 = new.refunded in
-    record {
-      captured = sum_known captured n rows (charge_row p n a k charge ∷ []) (charge_row p n a k charge) (pos charge.amount_captured) captured_sum
-          (latest_new rows n p a k charge) refl
-          (let right : pos charge.amount_captured ≡ captured_of n rows +ℤ (pos 0 +ℤ pos 0) = omega (arith, ints) in right);
-      refunded = sum_known refunded n rows (charge_row p n a k charge ∷ []) (charge_row p n a k charge) charge.amount_refunded refunded_sum
-          (latest_new rows n p a k charge) refl
-          (let right : charge.amount_refunded ≡ refunded_of n rows + (0 + 0) = omega arith in right);
-    }
-
--- ---- a charge, and the transaction of all that was captured of it
-
--- a transaction captures an amount of a charge, and moves nothing of a dispute
-pub record Takes (n amount : ℕ) (txn : Txn) : Type 0 where
-  pub adds : captured.adds (item.Txn txn) ≡ Some (record { object = n; amount = pos amount })
-  pub quiet : moved.adds (item.Txn txn) ≡ None
-
--- the two rows
-abbrev pair : ℕ → ℕ → ℕ → ℕ → Charge → ℕ → ℕ → ℕ → ℕ → Txn → List Row
-pair n p a k charge q o b l txn = charge_row p n a k charge ∷ txn_row q o b l txn ∷ []
-
--- behind rows that captured nothing of it, the charge says its amounts with them
-pair_sums : (rows : List Row) (n p a k : ℕ) (charge : Charge) (q o b l : ℕ) (txn : Txn) → (o ≡ n → ⊥)
-    → Takes n charge.amount_captured txn → IsFree n rows → charge.amount_refunded ≡ 0
-    → SaysSums n (rows ++ pair n p a k charge q o b l txn)
-pair_sums rows n p a k charge q o b l txn other takes free no_refund =
-    let was_captured : captured_of n rows ≡ pos 0 = free.captured in
-    let was_refunded : refunded_of n rows ≡ 0 = free.refunded in
-    let gives : given (pos 0) n (captured.adds (item.Txn txn)) ≡ pos charge.amount_captured =
-    ap (given (pos 0) n) takes.adds ∙ cond-true (eqb n n) (pos charge.amount_captured) (pos 0) (eq-eqb n n refl) in
-    record {
-      captured = sum_known captured n rows (pair n p a k charge q o b l txn) (charge_row p n a k charge)
-          (pos charge.amount_captured) captured_sum latest refl
-          (let right : pos charge.amount_captured ≡ captured_of n rows +ℤ (pos 0 +ℤ (given (pos 0) n (captured.adds (item.Txn txn)) +ℤ pos 0)) =
-          omega (arith, ints) in right);
-      refunded = sum_known refunded n rows (pair n p a k charge q o b l txn) (charge_row p n a k charge)
-          charge.amount_refunded refunded_sum latest refl
-          (let right : charge.amount_refunded ≡ refunded_of n rows + (0 + (0 + 0)) = omega arith in right);
-    }
-  where
-    latest : latest_of n (rows ++ pair n p a k charge q o b l txn) ≡ Some (charge_row p n a k charge)
-    latest =
-        ap (latest_of n) (sym (append_assoc rows (charge_row p n a k charge ∷ []) (txn_row q o b l txn ∷ [])))
-        ∙ fold_push (later_version n) None (rows ++ charge_row p n a k charge ∷ []) (txn_row q o b l txn)
-        ∙ cond-false (eqb o n) (Some (txn_row q o b l txn)) (latest_of n (rows ++ charge_row p n a k charge ∷ [])) (ne_eqb o n other)
-        ∙ latest_new rows n p a k charge
-
--- a version of a charge has nothing to do with any other
-version_apart : (n other p a k : ℕ) (charge : Charge) → (other ≡ n → ⊥)
-    → list_any (touches_charge other) (charge_row p n a k charge ∷ []) ≡ false
-version_apart n other p a k charge differs = ap (λ (b : Bool). (b || b) || false) (ne_eqb n other (λ e. differs (sym e)))
-
--- nor does the transaction
-taking_apart : (n other amount q o b l : ℕ) (txn : Txn) → Takes n amount txn → (other ≡ n → ⊥)
-    → list_any (touches_charge other) (txn_row q o b l txn ∷ []) ≡ false
-taking_apart n other amount q o b l txn takes differs =
-    ap (λ (part : Option (Addition ℤ)). ((goes_to other part || false) || false) || false) takes.adds
-    ∙ ap (λ (b : Bool). ((b || false) || false) || false) (ne_eqb n other (λ e. differs (sym e)))
-
--- nor do the two
-pair_apart : (n p a k : ℕ) (charge : Charge) (q o b l : ℕ) (txn : Txn) (amount other : ℕ) → Takes n amount txn → (other ≡ n → ⊥)
-    → list_any (touches_charge other) (pair n p a k charge q o b l txn) ≡ false
-pair_apart n p a k charge q o b l txn amount other takes differs =
-    neither_part (touches_charge other) (charge_row p n a k charge ∷ []) (txn_row q o b l txn ∷ [])
-    (version_apart n other p a k charge differs) (taking_apart n other amount q o b l txn takes differs)
-
--- they move nothing of a dispute
-pair_quiet : (n p a k : ℕ) (charge : Charge) (q o b l : ℕ) (txn : Txn) (amount : ℕ) → Takes n amount txn
-    → list_any (speaks moved) (pair n p a k charge q o b l txn) ≡ false
-pair_quiet n p a k charge q o b l txn amount takes =
-    ap (λ (part : Option (Addition (List Move))). false || ((is_some part || false) || false)) takes.quiet
-
--- so the laws on amounts are kept with them
-pair_kept : (rows : List Row) (n p a k : ℕ) (charge : Charge) (q o b l : ℕ) (txn : Txn) → (o ≡ n → ⊥)
-    → Takes n charge.amount_captured txn → IsFree n rows → charge.amount_refunded ≡ 0
-    → Kept rows (pair n p a k charge q o b l txn)
-pair_kept rows n p a k charge q o b l txn other takes free no_refund =
-    kept_one rows (pair n p a k charge q o b l txn) n (pair_sums rows n p a k charge q o b l txn other takes free no_refund)
-    (λ another differs. pair_apart n p a k charge q o b l txn charge.amount_captured another takes differs)
-    (pair_quiet n p a k charge q o b l txn charge.amount_captured takes)
-
 -- ---- a new charge of which nothing is captured
 
 -- the laws on amounts are kept with it, behind rows that captured nothing of it
 held_kept : (rows : List Row) (n p a k : ℕ) (charge : Charge) → IsFree n rows → IsNew charge
     → Kept rows (charge_row p n a k charge ∷ [])
 held_kept rows n p a k charge free new =
-    kept_one rows (charge_row p n a k charge ∷ []) n (held_sums rows n p a k charge free new)
-    (λ another differs. version_apart n another p a k charge differs) refl
+    kept_spoken rows (version ∷ []) (record {
+      charges = record {
+        captured = spoken_version captured rows version (pos charge.amount_captured) captured_sum refl refl
+            (ap pos new.captured ∙ sym free.captured);
+        refunded = spoken_version refunded rows version charge.amount_refunded refunded_sum refl refl (new.refunded ∙ sym free.refunded);
+        transferred = spoken_version transferred rows version charge.amount_transferred transferred_sum refl refl
+            (new.transferred ∙ sym free.transferred);
+      };
+      reversed = spoken_none reversed rows (version ∷ []) refl;
+      given_back = spoken_none given_back rows (version ∷ []) refl;
+      moved = spoken_none moved rows (version ∷ []) refl;
+    })
+  where
+    version : Row
+    version = charge_row p n a k charge
 
 -- ---- a capture
 
--- the payment of a split: rows in front of it captured nothing of it
-payment_kept : (rows : List Row) (place p a to transfer : ℕ) (charge : Charge) (amount taken now : ℕ) → IsFree place rows → place ≡ p
-    → Kept rows (rows_from p a (payment_rows place to transfer charge amount taken now))
-payment_kept rows place p a to transfer charge amount taken now free is =
-    subst (λ (number : ℕ). IsFree number rows → Kept rows (rows_from p a (payment_rows number to transfer charge amount taken now))) (sym is)
-    (λ none. pair_kept rows p p a to (split_payment p transfer charge amount now) (p + 1) (p + 1) a to
-    (split_txn charge sort.Payment (pos amount) taken (source.Payment p) now) (λ e. omega arith) (record { adds = refl; quiet = refl }) none refl)
-    free
+-- an application fee, of which nothing was given back
+fees_kept : (rows : List Row) (place account object p a : ℕ) (charge : Charge) (taken now : ℕ) → given_back_of p rows ≡ 0
+    → Kept rows (rows_from p a (fee_rows place account object charge taken now))
+fees_kept rows place account object p a charge taken now none =
+    by_fee (λ fees. Kept rows (rows_from p a fees)) place account object charge taken now (kept_none rows [] refl)
+    (kept_spoken rows more (record {
+      charges = charges_none rows more refl;
+      reversed = spoken_none reversed rows more refl;
+      given_back = spoken_among given_back rows more given_back_sum
+          (spoken_version given_back rows fee 0 given_back_sum refl refl (sym none));
+      moved = spoken_none moved rows more refl;
+    }))
+  where
+    more : List Row
+    more = rows_from p a (fee_pair place account object charge taken now)
 
--- the rows of a split behind the version and the transaction of its charge have to do with no amounts but a payment's
-fees_none : (place account object p a : ℕ) (charge : Charge) (taken now : ℕ)
-    → list_any is_of_amounts (rows_from p a (fee_rows place account object charge taken now)) ≡ false
-fees_none place account object p a charge taken now =
-    by_fee (λ fees. list_any is_of_amounts (rows_from p a fees) ≡ false) place account object charge taken now refl refl
-
--- what was captured of a charge of an account, as its transaction says it
-takes_all : (n : ℕ) (charge : Charge) (amount kept now : ℕ)
-    → Takes n amount (split_txn charge sort.Charge (pos amount) kept (source.Charge n) now)
-takes_all n charge amount kept now = record { adds = refl; quiet = refl }
+    fee : Row
+    fee = row_here p a (record { account = platform; item = item.Fee (split_fee place account object charge taken now) })
 
 -- the laws on amounts are kept with the version of a charge of which an amount is captured, and its split, behind rows that
--- captured nothing of it and of what is made behind it
-split_kept : (rows : List Row) (place account n : ℕ) (version charge : Charge) (amount now at : ℕ) → IsFree n rows → IsFree (place + 3) rows
-    → n < place → version.amount_captured ≡ amount → version.amount_refunded ≡ 0 → (p : ℕ)
+-- captured nothing of it and have to do with nothing that is made behind it
+split_kept : (rows : List Row) (place account n : ℕ) (version charge : Charge) (amount now at : ℕ) → IsFree n rows
+    → ((number : ℕ) → place ≤ number → IsUnused number rows) → n < place → version.amount_captured ≡ amount
+    → version.amount_refunded ≡ 0 → version.amount_transferred ≡ drawn_by_capture charge.destination amount → (p : ℕ)
     → Kept rows (charge_row p n at account version ∷ rows_from place at (split_rows place account n charge amount now))
-split_kept rows place account n version charge amount now at free later behind all none p =
-    by_kind (λ split. Kept rows (version_row ∷ rows_from place at split)) place account n charge amount now
-    (first (fee_of charge.currency amount))
-    (kept_both rows (taken_by (fee_of charge.currency amount + fee_taken charge amount)) (fees (place + 1) account)
-    (first (fee_of charge.currency amount + fee_taken charge amount))
-    (kept_none (rows ++ taken_by (fee_of charge.currency amount + fee_taken charge amount)) (fees (place + 1) account)
-    (fees_none (place + 1) account n (place + 1) at charge (fee_taken charge amount) now)))
-    to
+split_kept rows place account n version charge amount now at free later behind all none drawn p =
+    by_destination
+    (λ destination split. version.amount_transferred ≡ drawn_by_capture destination amount → Kept rows (whole ∷ rows_from place at split))
+    place account n charge amount now (λ nothing. plain (fee_of charge.currency amount) nothing) direct to drawn
   where
-    version_row : Row
-    version_row = charge_row p n at account version
+    whole : Row
+    whole = charge_row p n at account version
 
-    -- the version, and the transaction that keeps so much of it
-    taken_by : ℕ → List Row
-    taken_by kept = version_row ∷ txn_row place place at account (split_txn charge sort.Charge (pos amount) kept (source.Charge n) now) ∷ []
+    -- the transaction that keeps so much of what is captured
+    taking : ℕ → Row
+    taking kept = row_here place at (record { account = account; item = item.Txn (split_txn charge sort.Charge (pos amount) kept (source.Charge n) now) })
 
-    fees : ℕ → ℕ → List Row
-    fees number from = rows_from number at (fee_rows number from n charge (fee_taken charge amount) now)
+    captures : (kept : ℕ) → Spoken captured rows (whole ∷ taking kept ∷ [])
+    captures kept =
+        spoken_adding captured rows whole (taking kept) (pos amount) (pos version.amount_captured) captured_sum refl refl refl refl
+        (let before : captured_of n rows ≡ pos 0 = free.captured in
+        let right : pos version.amount_captured ≡ captured_of n rows +ℤ pos amount = omega (arith, ints) in right)
 
-    first : (kept : ℕ) → Kept rows (taken_by kept)
-    first kept =
-        pair_kept rows n p at account version place place at account (split_txn charge sort.Charge (pos amount) kept (source.Charge n) now)
-        (λ e. omega arith) (subst (λ (c : ℕ). Takes n c (split_txn charge sort.Charge (pos amount) kept (source.Charge n) now)) (sym all) (takes_all n charge amount kept now))
-        free none
+    refunds : Spoken refunded rows (whole ∷ [])
+    refunds = spoken_version refunded rows whole version.amount_refunded refunded_sum refl refl (none ∙ sym free.refunded)
 
-    to : (destination : ℕ) → Kept rows (version_row ∷ rows_from place at (destination_split place destination account n charge amount now))
-    to destination =
-        kept_both rows front (moves ++ (gives ++ taken)) (first kept)
-        (kept_both (rows ++ front) moves (gives ++ taken) (kept_none (rows ++ front) moves refl)
-        (kept_both ((rows ++ front) ++ moves) gives taken
-        (payment_kept ((rows ++ front) ++ moves) (place + 3) (place + 1 + 1 + 1) at destination (place + 1) charge amount (fee_taken charge amount) now payment_free (omega arith))
-        (kept_none (((rows ++ front) ++ moves) ++ gives) taken
-        (fees_none (place + 5) destination n (place + 1 + 1 + 1 + 1 + 1) at charge (fee_taken charge amount) now))))
+    plain : (kept : ℕ) → version.amount_transferred ≡ 0 → Kept rows (whole ∷ taking kept ∷ [])
+    plain kept nothing =
+        kept_spoken rows (whole ∷ taking kept ∷ []) (record {
+          charges = record {
+            captured = captures kept;
+            refunded = spoken_among refunded rows (whole ∷ taking kept ∷ []) refunded_sum refunds;
+            transferred = spoken_among transferred rows (whole ∷ taking kept ∷ []) transferred_sum
+                (spoken_version transferred rows whole version.amount_transferred transferred_sum refl refl (nothing ∙ sym free.transferred));
+          };
+          reversed = spoken_none reversed rows (whole ∷ taking kept ∷ []) refl;
+          given_back = spoken_none given_back rows (whole ∷ taking kept ∷ []) refl;
+          moved = spoken_none moved rows (whole ∷ taking kept ∷ []) refl;
+        })
+
+    fees : ℕ → ℕ → ℕ → List Row
+    fees q number from = rows_from q at (fee_rows number from n charge (fee_taken charge amount) now)
+
+    direct : version.amount_transferred ≡ 0
+        → Kept rows (whole ∷ taking (fee_of charge.currency amount + fee_taken charge amount) ∷ fees (place + 1) (place + 1) account)
+    direct nothing =
+        let kept = fee_of charge.currency amount + fee_taken charge amount in
+        let front = whole ∷ taking kept ∷ [] in
+        kept_both rows front (fees (place + 1) (place + 1) account) (plain kept nothing)
+        (fees_kept (rows ++ front) (place + 1) account n (place + 1) at charge (fee_taken charge amount) now
+        (given_back_beside (place + 1) rows front (later (place + 1) (omega arith)) refl))
+
+    to : (destination : ℕ) → version.amount_transferred ≡ amount
+        → Kept rows (whole ∷ rows_from place at (destination_split place destination account n charge amount now))
+    to destination drawn =
+        kept_both rows front (fees (place + 1 + 1 + 1 + 1 + 1) (place + 5) destination) (kept_spoken rows front front_spoken)
+        (fees_kept (rows ++ front) (place + 5) destination n (place + 1 + 1 + 1 + 1 + 1) at charge (fee_taken charge amount) now
+        (given_back_beside (place + 1 + 1 + 1 + 1 + 1) rows front (later (place + 1 + 1 + 1 + 1 + 1) (omega arith)) refl))
       where
-        kept : ℕ
-        kept = fee_of charge.currency amount
+        transfer : Transfer
+        transfer = split_transfer (place + 1) destination n charge amount now
+
+        own : Row
+        own = row_here (place + 1) at (own_row transfer)
+
+        payment : Row
+        payment = row_here (place + 1 + 1 + 1) at (payment_row (place + 1) transfer)
+
+        arriving : Row
+        arriving = row_here (place + 1 + 1 + 1 + 1) at (arriving_row (place + 1) transfer (fee_taken charge amount))
+
+        taken : Row
+        taken = taking (fee_of charge.currency amount)
 
         front : List Row
-        front = taken_by kept
+        front = whole ∷ taken ∷ rows_from (place + 1) at (transfer_rows (place + 1) transfer (fee_taken charge amount))
 
-        moves : List Row
-        moves = rows_from (place + 1) at (transfer_rows (place + 1) destination n charge amount now)
+        unused : IsUnused (place + 1 + 1 + 1) rows
+        unused = later (place + 1 + 1 + 1) (omega arith)
 
-        gives : List Row
-        gives = rows_from (place + 1 + 1 + 1) at (payment_rows (place + 3) destination (place + 1) charge amount (fee_taken charge amount) now)
+        -- what the transfer draws on the charge
+        draws : transferred.adds own ≡ Some (record { object = n; amount = amount })
+        draws = transferred_first own transfer refl refl
 
-        taken : List Row
-        taken = rows_from (place + 1 + 1 + 1 + 1 + 1) at (fee_rows (place + 5) destination n charge (fee_taken charge amount) now)
+        not_captured : captured_of (place + 1 + 1 + 1) (rows ++ whole ∷ taken ∷ []) ≡ pos 0
+        not_captured =
+            let before : captured_of (place + 1 + 1 + 1) rows ≡ pos 0 = unused.charge.captured in
+            let elsewhere : cond (eqb n (place + 1 + 1 + 1)) (pos amount) (pos 0) ≡ pos 0 =
+            cond-false (eqb n (place + 1 + 1 + 1)) (pos amount) (pos 0) (ne_eqb n (place + 1 + 1 + 1) (λ same. omega arith)) in
+            let both = sum_append captured (place + 1 + 1 + 1) rows (whole ∷ taken ∷ []) captured_sum in
+            let right : captured_of (place + 1 + 1 + 1) rows +ℤ (pos 0 +ℤ (cond (eqb n (place + 1 + 1 + 1)) (pos amount) (pos 0) +ℤ pos 0)) ≡ pos 0 =
+            omega (arith, ints) in
+            both ∙ right
 
-        payment_free : IsFree (place + 3) ((rows ++ front) ++ moves)
-        payment_free =
-            free_with (place + 3) (rows ++ front) moves
-            (free_with (place + 3) rows front later
-            (pair_apart n p at account version place place at account (split_txn charge sort.Charge (pos amount) kept (source.Charge n) now) amount (place + 3)
-            (takes_all n charge amount kept now) (λ e. omega arith))) refl
+        not_refunded : refunded_of (place + 1 + 1 + 1) (rows ++ whole ∷ []) ≡ 0
+        not_refunded =
+            let before : refunded_of (place + 1 + 1 + 1) rows ≡ 0 = unused.charge.refunded in
+            let both = sum_append refunded (place + 1 + 1 + 1) rows (whole ∷ []) refunded_sum in
+            let right : refunded_of (place + 1 + 1 + 1) rows + (0 + 0) ≡ 0 = omega arith in
+            both ∙ right
+
+        not_drawn : transferred_of (place + 1 + 1 + 1) (rows ++ whole ∷ own ∷ []) ≡ 0
+        not_drawn =
+            let before : transferred_of (place + 1 + 1 + 1) rows ≡ 0 = unused.charge.transferred in
+            let elsewhere : given 0 (place + 1 + 1 + 1) (transferred.adds own) ≡ 0 =
+            ap (given 0 (place + 1 + 1 + 1)) draws
+            ∙ cond-false (eqb n (place + 1 + 1 + 1)) amount 0 (ne_eqb n (place + 1 + 1 + 1) (λ same. omega arith)) in
+            let both = sum_append transferred (place + 1 + 1 + 1) rows (whole ∷ own ∷ []) transferred_sum in
+            let right : transferred_of (place + 1 + 1 + 1) rows + (0 + (given 0 (place + 1 + 1 + 1) (transferred.adds own) + 0)) ≡ 0 = omega arith in
+            both ∙ right
+
+        drawn_among : filter (speaks transferred) front ≡ whole ∷ own ∷ payment ∷ []
+        drawn_among =
+            ap (λ (part : Option (Addition ℕ)). whole ∷ cond (is_some part || false) (own ∷ payment ∷ []) (payment ∷ [])) draws
+
+        transfers : Spoken transferred rows (whole ∷ own ∷ payment ∷ [])
+        transfers =
+            spoken_both transferred rows (whole ∷ own ∷ []) (payment ∷ []) transferred_sum
+            (spoken_adding transferred rows whole own amount version.amount_transferred transferred_sum refl refl draws refl
+            (let before : transferred_of n rows ≡ 0 = free.transferred in
+            let right : version.amount_transferred ≡ transferred_of n rows + amount = omega arith in right))
+            (payment_transfers (rows ++ whole ∷ own ∷ []) (place + 1) (place + 1 + 1 + 1) at transfer not_drawn)
+
+        front_spoken : AreSpoken rows front
+        front_spoken = record {
+          charges = record {
+            captured = spoken_among captured rows front captured_sum
+                (spoken_both captured rows (whole ∷ taken ∷ []) (payment ∷ arriving ∷ []) captured_sum (captures (fee_of charge.currency amount))
+                (payment_captures (rows ++ whole ∷ taken ∷ []) (place + 1) (place + 1 + 1 + 1) at transfer (fee_taken charge amount) (omega arith) not_captured));
+            refunded = spoken_among refunded rows front refunded_sum
+                (spoken_both refunded rows (whole ∷ []) (payment ∷ []) refunded_sum refunds
+                (payment_refunds (rows ++ whole ∷ []) (place + 1) (place + 1 + 1 + 1) at transfer not_refunded));
+            transferred = spoken_among transferred rows front transferred_sum
+                (subst (λ (heard : List Row). Spoken transferred rows heard) (sym drawn_among) transfers);
+          };
+          reversed = spoken_among reversed rows front reversed_sum
+              (spoken_version reversed rows own 0 reversed_sum refl refl
+              (let unused : IsUnused (place + 1) rows = later (place + 1) (omega arith) in sym unused.reversed));
+          given_back = spoken_none given_back rows front refl;
+          moved = spoken_none moved rows front refl;
+        }
 
 -- ---- whole entries
 
@@ -276,20 +253,7 @@ kept_between rows front added behind before kept untouched laws held =
     (kept_both rows (front ++ added) behind (kept_both rows front added (kept_none rows front before) kept)
     (kept_none (rows ++ (front ++ added)) behind untouched) (amounts_kept rows laws)) held
 
--- nothing was captured of a charge that is made after a sound view
-new_is_free : (state : ViewState) (number : ℕ) → IsSound state → length state.rows < number → IsFree number state.rows
-new_is_free state number sound later = record {
-  captured = sum_later captured state number captured_sum captured_named sound.order later;
-  refunded = sum_later refunded state number refunded_sum refunded_named sound.order later;
-}
-
--- with rows in front that have to do with no amounts, nothing was captured of what is made after a sound view
-later_is_free : (state : ViewState) (front : List Row) (number : ℕ) → IsSound state → length state.rows < number
-    → list_any is_of_amounts front ≡ false → IsFree number (state.rows ++ front)
-later_is_free state front number sound later none =
-    free_with number state.rows front (new_is_free state number sound later) (charge_untouched number front none)
-
--- a capture of a charge of which nothing was captured or refunded in the view: the rows keep the laws with it
+-- a capture of a charge of which nothing was captured, refunded or transferred in the view: the rows keep the laws with it
 pub captured_keeps : (state : ViewState) (batch : BatchState) (account n : ℕ) (charge : Charge) (amount : ℕ) (behind : List Row)
     → IsSound state → batch.began ≡ length state.rows → list_any is_of_amounts batch.rows ≡ false → IsFree n state.rows
     → n ≤ last_place batch + 1 → charge.amount_refunded ≡ 0 → list_any is_of_amounts behind ≡ false
@@ -307,9 +271,9 @@ captured_keeps state batch account n charge amount behind sound began front free
     kept =
         split_kept (state.rows ++ batch.rows) (last_place batch + 2) account n
         (captured_charge amount (next_capture account charge amount batch) charge) charge amount batch.at batch.at
-        (free_with n state.rows batch.rows free (charge_untouched n batch.rows front))
-        (later_is_free state batch.rows (last_place batch + 2 + 3) sound (omega arith) front)
-        (omega arith) refl no_refund (last_place batch + 1)
+        (free_with n state.rows batch.rows free front)
+        (λ number above. later_is_unused state batch.rows number sound (omega arith) front)
+        (omega arith) refl no_refund refl (last_place batch + 1)
 
 -- a new charge that is held: the rows keep the laws with it
 pub held_keeps : (state : ViewState) (batch : BatchState) (account n : ℕ) (charge : Charge) (behind : List Row)
@@ -319,7 +283,7 @@ pub held_keeps : (state : ViewState) (batch : BatchState) (account n : ℕ) (cha
     → KeepLaws (state.rows ++ ((with_row batch n account (item.Charge charge)).rows ++ behind))
 held_keeps state batch account n charge behind sound front later new untouched =
     kept_between state.rows batch.rows (charge_row (last_place batch + 1) n batch.at account charge ∷ []) behind front
-    (held_kept (state.rows ++ batch.rows) n (last_place batch + 1) batch.at account charge (later_is_free state batch.rows n sound later front) new)
+    (held_kept (state.rows ++ batch.rows) n (last_place batch + 1) batch.at account charge (let unused : IsUnused n (state.rows ++ batch.rows) = later_is_unused state batch.rows n sound later front in unused.charge) new)
     untouched sound.laws
 
 -- a new charge that is approved, captured at once or held
@@ -329,9 +293,9 @@ approved_keeps : (capture : CaptureMethod) (state : ViewState) (batch : BatchSta
     → AreHeld (state.rows ++ ((with_approved capture account n charge batch).rows ++ behind))
     → KeepLaws (state.rows ++ ((with_approved capture account n charge batch).rows ++ behind))
 approved_keeps capture_method.Automatic state batch account n charge behind sound began front later here new untouched =
-    captured_keeps state batch account n charge charge.amount behind sound began front (new_is_free state n sound later) here new.refunded untouched
+    captured_keeps state batch account n charge charge.amount behind sound began front (let unused : IsUnused n state.rows = new_is_unused state n sound later in unused.charge) here new.refunded untouched
 approved_keeps capture_method.AutomaticAsync state batch account n charge behind sound began front later here new untouched =
-    captured_keeps state batch account n charge charge.amount behind sound began front (new_is_free state n sound later) here new.refunded untouched
+    captured_keeps state batch account n charge charge.amount behind sound began front (let unused : IsUnused n state.rows = new_is_unused state n sound later in unused.charge) here new.refunded untouched
 approved_keeps capture_method.Manual state batch account n charge behind sound began front later here new untouched =
     held_keeps state batch account n charge behind sound front later new untouched
 
@@ -342,7 +306,7 @@ pub approval_keeps : (state : ViewState) (account object : ℕ) (intent : Intent
     → KeepLaws (state.rows ++ ((approval_of account object intent batch).rows ++ behind))
 approval_keeps state account object intent batch behind sound began front untouched =
     approved_keeps intent.capture_method state batch account (charge_number batch) (new_charge object intent status.Succeeded) behind sound began front
-    (omega arith) (omega arith) (record { captured = refl; refunded = refl }) untouched
+    (omega arith) (omega arith) (record { captured = refl; refunded = refl; transferred = refl }) untouched
 
 -- and with a decline
 pub decline_keeps : (state : ViewState) (account object : ℕ) (intent : Intent) (batch : BatchState) (behind : List Row)
@@ -351,7 +315,7 @@ pub decline_keeps : (state : ViewState) (account object : ℕ) (intent : Intent)
     → KeepLaws (state.rows ++ ((decline_of account object intent batch).rows ++ behind))
 decline_keeps state account object intent batch behind sound began front untouched =
     held_keeps state batch account (charge_number batch) (new_charge object intent status.Failed) behind sound front
-    (omega arith) (record { captured = refl; refunded = refl }) untouched
+    (omega arith) (record { captured = refl; refunded = refl; transferred = refl }) untouched
 
 -- a capture of the charge of a row is that of its version
 pub capture_is : (rows : List Row) (n amount : ℕ) (fee : Option ℕ) (batch : BatchState) (row : Row) (charge : Charge)
@@ -375,18 +339,23 @@ capture_keeps state n amount fee batch behind row charge sound began latest is n
     found : (row_at row.place state.rows ≡ Some row) × (row.object ≡ n)
     found = latest_of_sound state n row sound latest
 
+    fits : IsWithin charge
+    fits = amounts_stand state row (item.Charge charge) sound.order found.0 is
+
     no_refund : charge.amount_refunded ≡ 0
-    no_refund =
-        let fits : IsWithin charge = amounts_stand state row (item.Charge charge) sound.order found.0 is in
-        let within : charge.amount_refunded ≤ charge.amount_captured = fits.refunded in omega arith
+    no_refund = let within : charge.amount_refunded ≤ charge.amount_captured = fits.refunded in omega arith
+
+    no_transfer : charge.amount_transferred ≡ 0
+    no_transfer = let within : charge.amount_transferred ≤ charge.amount_captured = fits.transferred in omega arith
 
     says : SaysSums n state.rows
-    says = record { captured = sound.laws.captured n; refunded = sound.laws.refunded n }
+    says = record { captured = sound.laws.captured n; refunded = sound.laws.refunded n; transferred = sound.laws.transferred n }
 
     free : IsFree n state.rows
     free = record {
       captured = sym (says.captured row (pos charge.amount_captured) latest (ap captured.said is)) ∙ ap pos no_capture;
       refunded = sym (says.refunded row charge.amount_refunded latest (ap refunded.said is)) ∙ no_refund;
+      transferred = sym (says.transferred row charge.amount_transferred latest (ap transferred.said is)) ∙ no_transfer;
     }
 
     here : n ≤ last_place batch + 1

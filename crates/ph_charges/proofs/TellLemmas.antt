@@ -1,6 +1,6 @@
 -- The events of a split tell of its rows, and a batch may be entered with them.
 use Rattle.std.specs.Prelude.{option_map, slice_get}
-use Rattle.std.proofs.Common.{◌≡◌, ℕ, zero, suc, ◌+◌, ◌≤◌, List, [], ◌∷◌, ◌++◌, Option, None, Some, length, refl, sym, ap, ◌∙◌, subst, arith}
+use Rattle.std.proofs.Common.{◌≡◌, ℕ, suc, ◌+◌, ◌≤◌, List, [], ◌∷◌, ◌++◌, Option, None, Some, length, refl, sym, ap, ◌∙◌, subst, arith}
 use Rattle.std.specs.List.{cons_option}
 use Rattle.std.proofs.lemmas.List.{length-append}
 use Rattle.ph_items.specs.declared.event_kinds.EventKind.{EventKind}
@@ -17,7 +17,7 @@ use Rattle.ph_rows.specs.Views.{ViewState}
 use Rattle.ph_facts.specs.Entering.{AreTold, IsToldBy, MayBeEntered}
 use Rattle.ph_facts.specs.Keeps.{MayBeAdded}
 use Rattle.ph_facts.specs.Order.{IsInOrder}
-use Rattle.ph_facts.specs.Shown.{shown_in, shows}
+use Rattle.ph_facts.specs.Shown.{shown_in}
 use Rattle.ph_facts.specs.Sound.{IsSound, KeepLaws}
 use Rattle.ph_facts.specs.Touches.{Touch}
 use Rattle.ph_facts.proofs.EnterLemmas.{row_told}
@@ -36,7 +36,9 @@ event_kind (item.Charge charge) sort e = absurd (cc)
 event_kind (item.Refund refund) sort e = absurd (cc)
 event_kind (item.Dispute dispute) sort e = absurd (cc)
 event_kind (item.Transfer transfer) sort e = let same : event.TransferCreated ≡ sort = cc in ap subject_of same
+event_kind (item.Reversal reversal) sort e = absurd (cc)
 event_kind (item.Fee fee) sort e = let same : event.FeeCreated ≡ sort = cc in ap subject_of same
+event_kind (item.FeeRefund fee_refund) sort e = absurd (cc)
 event_kind (item.Txn txn) sort e = absurd (cc)
 event_kind (item.Event told) sort e = absurd (cc)
 

@@ -1,5 +1,5 @@
 -- The events of a split: they tell of its transfer and of its application fee.
-use Rattle.std.specs.Prelude.{ℕ, List, [], ◌∷◌, Option, None, Some, option_map}
+use Rattle.std.specs.Prelude.{List, [], ◌∷◌, Option, None, Some, option_map}
 use Rattle.std.specs.List.{filter_map}
 use Rattle.ph_items.specs.declared.event_kinds.EventKind.{EventKind}
 use Rattle.ph_items.specs.declared.event_kinds.EventKind.TheVariants as event
