@@ -1,3 +1,4 @@
 mod EntryLemmas
 mod FoundLemmas
 pub mod LawLemmas
+mod PartLemmas

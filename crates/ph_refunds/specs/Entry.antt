@@ -1,5 +1,5 @@
 -- The rows that a refund adds.
-use Rattle.std.specs.Prelude.{ℕ, ◌+◌, max, pos, neg_ℤ}
+use Rattle.std.specs.Prelude.{ℕ, ◌+◌, max, pos, neg_ℤ, [], Option, None, Some, option_map}
 use Rattle.ph_calls.specs.declared.call.CreateRefund.{CreateRefund}
 use Rattle.ph_kinds.specs.Kept.{first_metadata}
 use Rattle.ph_items.specs.declared.charges.Capture.{Capture}
@@ -11,11 +11,21 @@ use Rattle.ph_items.specs.declared.refunds.Refund.{Refund}
 use Rattle.ph_items.specs.declared.transactions.Txn.{Txn}
 use Rattle.ph_items.specs.declared.transactions.TxnSource.TheVariants as source
 use Rattle.ph_items.specs.declared.transactions.TxnType.TheVariants as sort
+use Rattle.ph_reversals.specs.FeeRefunds.{with_fee_refund, with_given_back}
+use Rattle.ph_reversals.specs.Reversals.{with_reversal, with_reversed}
 use Rattle.ph_rows.specs.Batches.{BatchState, last_place, with_row, with_announced}
+use Rattle.ph_refunds.specs.declared.parts.FeePart.{FeePart}
+use Rattle.ph_refunds.specs.declared.parts.TransferPart.{TransferPart}
 
--- the refund of an amount of a charge, as its call says, whose row is the next one: its transaction stands behind it
-abbrev pub new_refund : CreateRefund → ℕ → Charge → ℕ → BatchState → Refund
-new_refund call object charge amount batch = record {
+-- the number of the reversal that a refund makes whose row is the next one: it stands behind the refund and its transaction, where
+-- there is one
+abbrev pub reversal_made : BatchState → Option TransferPart → Option ℕ
+reversal_made batch transfer = option_map (λ (part : TransferPart). last_place batch + 3) transfer
+
+-- the refund of an amount of a charge and of a part of its transfer, or none, as its call says, whose row is the next one: its
+-- transaction stands behind it
+abbrev pub new_refund : CreateRefund → ℕ → Charge → ℕ → Option TransferPart → BatchState → Refund
+new_refund call object charge amount transfer batch = record {
   charge = object;
   intent = paid_intent charge.sort;
   amount = amount;
@@ -23,6 +33,7 @@ new_refund call object charge amount batch = record {
   reason = call.reason;
   metadata = first_metadata call.metadata;
   transaction = last_place batch + 2;
+  reversal = reversal_made batch transfer;
 }
 
 -- the transaction that takes a refunded amount: nothing of the charge's fee comes back
@@ -58,9 +69,32 @@ abbrev pub with_refunded : ℕ → ℕ → Charge → BatchState → BatchState
 with_refunded account object charge batch =
     with_announced (with_row batch object account (item.Charge charge)) event.ChargeRefunded object
 
--- the batch with the refund of an amount of a captured charge of an account: the refund, its transaction, the charge
-abbrev pub refund_rows : CreateRefund → ℕ → ℕ → Charge → Capture → ℕ → BatchState → BatchState
-refund_rows call account object charge capture amount batch =
-    with_refunded account object (refunded_charge amount charge)
+-- the batch with what the refund of a number takes back of a transfer, where it does; it has no metadata
+abbrev pub with_taken_back : ℕ → Option TransferPart → BatchState → BatchState
+with_taken_back refund None batch = batch
+with_taken_back refund (Some part) batch = with_reversal part.object part.transfer part.amount (Some refund) [] batch
+
+-- the batch with what a refund gives back of an application fee, where it does; it has no metadata
+abbrev pub with_part_given_back : Option FeePart → BatchState → BatchState
+with_part_given_back None batch = batch
+with_part_given_back (Some part) batch = with_fee_refund part.object part.fee part.amount [] batch
+
+-- the batch with the version of the transfer of which a part was taken back, where one was, and what is told of it
+abbrev pub with_transfer_told : Option TransferPart → BatchState → BatchState
+with_transfer_told None batch = batch
+with_transfer_told (Some part) batch = with_reversed part.account part.object part.transfer part.amount batch
+
+-- the batch with the version of the application fee of which a part was given back, where one was, and what is told of it
+abbrev pub with_fee_told : Option FeePart → BatchState → BatchState
+with_fee_told None batch = batch
+with_fee_told (Some part) batch = with_given_back part.account part.object part.fee part.amount batch
+
+-- the batch with the refund of an amount of a captured charge of an account, and of parts of its transfer and application fee: the
+-- refund, its transaction, the reversal, the fee refund; then the versions of the charge, the transfer and the application fee
+abbrev pub refund_rows : CreateRefund → ℕ → ℕ → Charge → Capture → ℕ → Option TransferPart → Option FeePart → BatchState → BatchState
+refund_rows call account object charge capture amount transfer fee batch =
+    with_fee_told fee (with_transfer_told transfer
+    (with_refunded account object (refunded_charge amount charge)
+    (with_part_given_back fee (with_taken_back (last_place batch + 1) transfer
     (with_refund_txn account charge amount (refunded_from batch.at capture)
-    (with_refund account (new_refund call object charge amount batch) batch))
+    (with_refund account (new_refund call object charge amount transfer batch) batch))))))

@@ -1,4 +1,5 @@
 pub mod Entry
 pub mod Finding
 pub mod Laws
+pub mod Parts
 pub mod Refunds

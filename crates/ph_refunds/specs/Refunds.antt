@@ -1,8 +1,9 @@
 -- The refund.
-use Rattle.std.specs.Prelude.{ℕ, ◌+◌, ◌-◌, Bool, true, false, ◌==◌, not, nat_lt, if◌then◌else◌, List, Option, None, Some, unwrap_or, codes, option_and_then}
+use Rattle.std.specs.Prelude.{ℕ, ◌+◌, ◌-◌, Bool, true, false, ◌==◌, not, nat_lt, if◌then◌else◌, List, Option, None, Some, Result, Ok, Err, unwrap_or, codes, option_and_then}
 use Rattle.ph_calls.specs.declared.call.CreateRefund.{CreateRefund}
 use Rattle.ph_facts.specs.Outcomes.{Outcome, Refuses, Adds}
 use Rattle.ph_facts.specs.Touches.{Untouched}
+use Rattle.ph_errors.specs.declared.api_error.ApiError.{ApiError}
 use Rattle.ph_errors.specs.Table.{error_of, ChargeNotCaptured, ChargeDisputed, ChargeAlreadyRefunded, InvalidValue}
 use Rattle.ph_rows.specs.declared.rows.Row.{Row}
 use Rattle.ph_items.specs.declared.charges.Capture.{Capture}
@@ -15,6 +16,9 @@ use Rattle.ph_items.specs.Items.{dispute_in}
 use Rattle.ph_rows.specs.Rows.{latest_of}
 use Rattle.ph_refunds.specs.Entry.{refund_rows}
 use Rattle.ph_refunds.specs.Finding.{made_at}
+use Rattle.ph_refunds.specs.declared.parts.FeePart.{FeePart}
+use Rattle.ph_refunds.specs.declared.parts.TransferPart.{TransferPart}
+use Rattle.ph_refunds.specs.Parts.{FeeVersion, TransferVersion, captured_fee, captured_transfer, fee_asked, transfer_asked}
 
 -- the status is that of a dispute that is won
 abbrev pub is_won : DisputeStatus → Bool
@@ -41,33 +45,67 @@ is_disputed rows (Some number) = not (is_won_by (dispute_of rows number))
 abbrev pub left_of : Charge → ℕ
 left_of charge = charge.amount_captured - charge.amount_refunded
 
--- the refund of an amount, which is no more than what is left; the answer is the refund
-abbrev pub refund_amount : CreateRefund → BatchState → Row → Charge → Capture → ℕ → Outcome
-refund_amount call batch row charge capture amount =
-    if nat_lt (left_of charge) amount then Refuses (error_of (InvalidValue (codes "amount")))
-    else Adds Untouched (last_place batch + 1) (refund_rows call row.account row.object charge capture amount batch)
+-- a version of a charge that is to be refunded, in its row, and the present versions of its transfer and its application fee, where
+-- it has them
+pub record Refundable : Type 0 where
+  pub row : Row
+  pub charge : Charge
+  pub transfer : Option TransferVersion
+  pub fee : Option FeeVersion
+
+abbrev pub refundable : List Row → Row → Charge → Refundable
+refundable rows row charge = record {
+  row = row;
+  charge = charge;
+  transfer = captured_transfer rows charge.capture;
+  fee = captured_fee rows charge.capture;
+}
+
+-- what is made with a part, or its error
+abbrev pub with_part : {P : Type 0} → (Option P → Outcome) → Result (Option P) ApiError → Outcome
+with_part make (Ok part) = make part
+with_part make (Err error) = Refuses error
+
+-- the refund of an amount and of these parts; the answer is the refund
+abbrev pub refund_parts : CreateRefund → BatchState → Refundable → Capture → ℕ → Option TransferPart → Option FeePart → Outcome
+refund_parts call batch of capture amount transfer fee =
+    Adds Untouched (last_place batch + 1)
+    (refund_rows call of.row.account of.row.object of.charge capture amount transfer fee batch)
+
+-- the refund of an amount, with the parts for which its call asks
+abbrev pub refund_asked : CreateRefund → BatchState → Refundable → Capture → ℕ → Outcome
+refund_asked call batch of capture amount =
+    with_part (λ transfer. with_part (refund_parts call batch of capture amount transfer) (fee_asked call of.charge amount of.fee))
+    (transfer_asked call of.charge amount of.transfer)
+
+-- the refund of an amount, which is no more than what is left
+abbrev pub refund_amount : CreateRefund → BatchState → Refundable → Capture → ℕ → Outcome
+refund_amount call batch of capture amount =
+    if nat_lt (left_of of.charge) amount then Refuses (error_of (InvalidValue (codes "amount")))
+    else refund_asked call batch of capture amount
 
 -- the refund of what a call names, or else of all that is left, where something is
-abbrev pub refund_left : CreateRefund → BatchState → Row → Charge → Capture → Outcome
-refund_left call batch row charge capture =
-    if left_of charge == 0 then Refuses (error_of ChargeAlreadyRefunded)
-    else refund_amount call batch row charge capture (unwrap_or call.amount (left_of charge))
+abbrev pub refund_left : CreateRefund → BatchState → Refundable → Capture → Outcome
+refund_left call batch of capture =
+    if left_of of.charge == 0 then Refuses (error_of ChargeAlreadyRefunded)
+    else refund_amount call batch of capture (unwrap_or call.amount (left_of of.charge))
 
 -- the refund of a captured charge, where it isn't disputed
-abbrev pub refund_captured : List Row → CreateRefund → BatchState → Row → Charge → Capture → Outcome
-refund_captured rows call batch row charge capture =
-    if is_disputed rows charge.dispute then Refuses (error_of ChargeDisputed)
-    else refund_left call batch row charge capture
+abbrev pub refund_captured : List Row → CreateRefund → BatchState → Refundable → Capture → Outcome
+refund_captured rows call batch of capture =
+    if is_disputed rows of.charge.dispute then Refuses (error_of ChargeDisputed)
+    else refund_left call batch of capture
 
 -- the refund of a charge with this capture, or none: one that is captured
-abbrev pub refund_by : List Row → CreateRefund → BatchState → Row → Charge → Option Capture → Outcome
-refund_by rows call batch row charge None = Refuses (error_of ChargeNotCaptured)
-refund_by rows call batch row charge (Some capture) = refund_captured rows call batch row charge capture
+abbrev pub refund_by : List Row → CreateRefund → BatchState → Refundable → Option Capture → Outcome
+refund_by rows call batch of None = Refuses (error_of ChargeNotCaptured)
+refund_by rows call batch of (Some capture) = refund_captured rows call batch of capture
 
--- the refund of the charge whose version a row has
-abbrev pub refund_of : List Row → CreateRefund → BatchState → Row → Charge → Outcome
-refund_of rows call batch row charge = refund_by rows call batch row charge charge.capture
+-- the refund of what is to be refunded
+abbrev pub refund_of : List Row → CreateRefund → BatchState → Refundable → Outcome
+refund_of rows call batch of = refund_by rows call batch of of.charge.capture
 
 -- the refund of the charge that a call names, whatever the charge's account
 abbrev pub refund_outcome : List Row → ℕ → CreateRefund → BatchState → Outcome
-refund_outcome rows account call batch = made_at (refund_of rows call batch) rows call.charge call.payment_intent
+refund_outcome rows account call batch =
+    made_at (λ row charge. refund_of rows call batch (refundable rows row charge)) rows call.charge call.payment_intent

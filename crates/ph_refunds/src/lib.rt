@@ -4,6 +4,7 @@
 mod entry;
 mod finding;
 mod laws;
+mod parts;
 mod refunding;
 
 pub use laws::{refund_keeps_sound, refunds_are_sums};

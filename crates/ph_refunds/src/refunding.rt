@@ -1,12 +1,13 @@
 //! The refund.
-ghost use Rattle.std.specs.Prelude.{◌≡◌, ◌<◌};
+ghost use Rattle.std.specs.Prelude.{◌≡◌, ◌<◌, ◌≤◌};
 ghost use Rattle.std.specs.Option.{option_copied};
 ghost use Rattle.ph_facts.specs.Outcomes.{Gives};
 ghost use Rattle.ph_refunds.specs.Finding.{made_of_row};
-ghost use Rattle.ph_refunds.specs.Refunds.{is_disputed, is_won, left_of, refund_amount, refund_captured, refund_left, refund_of, refund_outcome};
+ghost use Rattle.ph_refunds.specs.Refunds.{is_disputed, is_won, left_of, refund_amount, refund_asked, refund_captured, refund_left, refund_of, refund_outcome, refundable};
 
 use crate::entry::{add_refund, left_of};
 use crate::finding::latest_charge_named;
+use crate::parts::{fee_asked, transfer_asked};
 use ph_base::Kind;
 use ph_calls::CreateRefund;
 use ph_errors::{ApiError, Refusal};
@@ -41,9 +42,10 @@ fn is_disputed<V: View>(view: &V, dispute: Option<u64>) -> bool
     }
 }
 
-// The refund of an amount of a charge of which something is left.
-fn refund_amount(
+// The refund of an amount that is left of a charge, with the parts for which the call asks.
+fn refund_asked<V: View>(
     alloc: Global,
+    view: &V,
     call: &CreateRefund,
     row: &Row,
     charge: &Charge,
@@ -52,11 +54,11 @@ fn refund_amount(
     batch: &mut Batch,
 ) -> Result<u64, Refusal>
     requires some { 0 < left_of charge.now }
-    ensures { Gives (refund_amount call.now batch.old row.now charge.now capture amount) batch.old result batch.new }
+    requires within { amount ≤ left_of charge.now }
+    ensures { Gives (refund_asked call.now batch.old (refundable (V.state view.now).rows row.now charge.now) capture amount) batch.old result batch.new }
 {
-    if amount.units() > left_of(charge).units() {
-        return Err(Refusal::of(ApiError::invalid_value(alloc, b"amount")));
-    }
+    let transfer = transfer_asked(alloc, view, call, charge, amount)?;
+    let fee = fee_asked(alloc, view, call, charge, amount)?;
     let number = add_refund(
         alloc,
         call,
@@ -65,28 +67,51 @@ fn refund_amount(
         charge,
         capture,
         amount,
+        transfer,
+        fee,
         batch,
     )?;
     Ok(number)
 }
 
-// The refund of what the call names, or else of all that is left, where something is.
-fn refund_left(
+// The refund of an amount of a charge of which something is left.
+fn refund_amount<V: View>(
     alloc: Global,
+    view: &V,
+    call: &CreateRefund,
+    row: &Row,
+    charge: &Charge,
+    capture: Capture,
+    amount: Amount,
+    batch: &mut Batch,
+) -> Result<u64, Refusal>
+    requires some { 0 < left_of charge.now }
+    ensures { Gives (refund_amount call.now batch.old (refundable (V.state view.now).rows row.now charge.now) capture amount) batch.old result batch.new }
+{
+    if amount.units() > left_of(charge).units() {
+        return Err(Refusal::of(ApiError::invalid_value(alloc, b"amount")));
+    }
+    refund_asked(alloc, view, call, row, charge, capture, amount, batch)
+}
+
+// The refund of what the call names, or else of all that is left, where something is.
+fn refund_left<V: View>(
+    alloc: Global,
+    view: &V,
     call: &CreateRefund,
     row: &Row,
     charge: &Charge,
     capture: Capture,
     batch: &mut Batch,
 ) -> Result<u64, Refusal>
-    ensures { Gives (refund_left call.now batch.old row.now charge.now capture) batch.old result batch.new }
+    ensures { Gives (refund_left call.now batch.old (refundable (V.state view.now).rows row.now charge.now) capture) batch.old result batch.new }
 {
     let left = left_of(charge);
     if left.units() == 0 {
         return Err(Refusal::of(ApiError::charge_already_refunded(alloc)));
     }
     let amount = call.amount.unwrap_or(left);
-    refund_amount(alloc, call, row, charge, capture, amount, batch)
+    refund_amount(alloc, view, call, row, charge, capture, amount, batch)
 }
 
 // The refund of a captured charge, where it isn't disputed.
@@ -99,12 +124,12 @@ fn refund_captured<V: View>(
     capture: Capture,
     batch: &mut Batch,
 ) -> Result<u64, Refusal>
-    ensures { Gives (refund_captured (V.state view.now).rows call.now batch.old row.now charge.now capture) batch.old result batch.new }
+    ensures { Gives (refund_captured (V.state view.now).rows call.now batch.old (refundable (V.state view.now).rows row.now charge.now) capture) batch.old result batch.new }
 {
     if is_disputed(view, charge.dispute) {
         return Err(Refusal::of(ApiError::charge_disputed(alloc)));
     }
-    refund_left(alloc, call, row, charge, capture, batch)
+    refund_left(alloc, view, call, row, charge, capture, batch)
 }
 
 // The refund of a charge, where it is captured.
@@ -116,7 +141,7 @@ fn refund_charge<V: View>(
     charge: &Charge,
     batch: &mut Batch,
 ) -> Result<u64, Refusal>
-    ensures { Gives (refund_of (V.state view.now).rows call.now batch.old row.now charge.now) batch.old result batch.new }
+    ensures { Gives (refund_of (V.state view.now).rows call.now batch.old (refundable (V.state view.now).rows row.now charge.now)) batch.old result batch.new }
 {
     match charge.capture {
         Some(capture) => refund_captured(alloc, view, call, row, charge, capture, batch),
@@ -133,7 +158,7 @@ fn refund_row<V: View>(
     row: Option<&Row>,
     batch: &mut Batch,
 ) -> Result<u64, Refusal>
-    ensures { Gives (made_of_row (refund_of (V.state view.now).rows call.now batch.old) param.now (option_copied row.entry)) batch.old result batch.new }
+    ensures { Gives (made_of_row (λ found charge. refund_of (V.state view.now).rows call.now batch.old (refundable (V.state view.now).rows found charge)) param.now (option_copied row.entry)) batch.old result batch.new }
 {
     let Some(row) = row else {
         return Err(Refusal::of(ApiError::no_such_object(alloc, param)));
@@ -146,8 +171,9 @@ fn refund_row<V: View>(
 
 /// Refunds the charge that the call names by its id or as the latest charge of a payment intent, whatever its account:
 /// the amount that is named, or else all that is left. It is refused where there is no such charge, where the charge
-/// isn't captured, where its customer disputes it and the dispute isn't won, where nothing is left, and for more than
-/// is left; in this order. The answer is the refund's number.
+/// isn't captured, where its customer disputes it and the dispute isn't won, where nothing is left, for more than is
+/// left, and where it is to take back of a transfer or give back of an application fee that the charge doesn't have; in
+/// this order. The answer is the refund's number.
 pub fn refund<V: View>(
     alloc: Global,
     view: &V,
