@@ -7,6 +7,7 @@ ghost use Rattle.ph_transfers.specs.Create.{transfer_drawn, transfer_of, transfe
 ghost use Rattle.ph_transfers.specs.Found.{made_of_row};
 
 use crate::entry::{add_drawn, add_of_balance, left_to_transfer};
+use crate::refusals::no_such_object;
 use ph_accounts::connected_named;
 use ph_base::Kind;
 use ph_calls::CreateTransfer;
@@ -67,7 +68,7 @@ fn transfer_of(
 {
     match charge.capture {
         Some(capture) => transfer_drawn(alloc, call, destination, row, charge, capture, batch),
-        None => Err(Refusal::of(ApiError::no_such_object(alloc, b"source_transaction"))),
+        None => Err(no_such_object(alloc, b"source_transaction")),
     }
 }
 
@@ -83,11 +84,11 @@ fn transfer_of_row(
 {
     let name = b"source_transaction";
     let Some(row) = row else {
-        return Err(Refusal::of(ApiError::no_such_object(alloc, name)));
+        return Err(no_such_object(alloc, name));
     };
     match row.item.charge() {
         Some(charge) => transfer_of(alloc, call, destination, row, charge, batch),
-        None => Err(Refusal::of(ApiError::no_such_object(alloc, name))),
+        None => Err(no_such_object(alloc, name)),
     }
 }
 
@@ -109,7 +110,7 @@ pub fn create<V: View>(
         return Err(Refusal::of(ApiError::platform_only(alloc)));
     }
     let Some(destination) = connected_named(view, call.destination.as_slice()) else {
-        return Err(Refusal::of(ApiError::no_such_object(alloc, b"destination")));
+        return Err(no_such_object(alloc, b"destination"));
     };
     match &call.source_transaction {
         Some(text) => {

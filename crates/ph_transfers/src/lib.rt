@@ -6,6 +6,7 @@ mod creation;
 mod entry;
 mod laws;
 mod refunding_fees;
+mod refusals;
 mod reversing;
 
 pub use creation::create;

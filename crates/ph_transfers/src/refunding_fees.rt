@@ -5,6 +5,7 @@ ghost use Rattle.ph_reversals.specs.FeeRefunds.{left_of_fee};
 ghost use Rattle.ph_transfers.specs.RefundFee.{refund_fee_amount, refund_fee_of, refund_fee_outcome};
 
 use crate::amounts::is_too_much;
+use crate::refusals::no_such_object;
 use ph_base::Kind;
 use ph_calls::RefundFee;
 use ph_errors::{ApiError, Refusal};
@@ -64,10 +65,10 @@ pub fn refund_fee<V: View>(
     ensures { Gives (refund_fee_outcome (V.state view.now).rows account call.now batch.old) batch.old result batch.new }
 {
     let Some(row) = owned_named(view, account, Kind::Fee, call.id.as_slice()) else {
-        return Err(Refusal::of(ApiError::no_such_object(alloc, b"id")));
+        return Err(no_such_object(alloc, b"id"));
     };
     match row.item.fee() {
         Some(fee) => refund_fee_of(alloc, call, row, fee, batch),
-        None => Err(Refusal::of(ApiError::no_such_object(alloc, b"id"))),
+        None => Err(no_such_object(alloc, b"id")),
     }
 }

@@ -5,6 +5,7 @@ ghost use Rattle.ph_reversals.specs.Reversals.{left_of_transfer};
 ghost use Rattle.ph_transfers.specs.Reverse.{reverse_amount, reverse_of, reverse_outcome};
 
 use crate::amounts::is_too_much;
+use crate::refusals::no_such_object;
 use ph_base::Kind;
 use ph_calls::ReverseTransfer;
 use ph_errors::{ApiError, Refusal};
@@ -65,10 +66,10 @@ pub fn reverse<V: View>(
     ensures { Gives (reverse_outcome (V.state view.now).rows account call.now batch.old) batch.old result batch.new }
 {
     let Some(row) = owned_named(view, account, Kind::Transfer, call.id.as_slice()) else {
-        return Err(Refusal::of(ApiError::no_such_object(alloc, b"id")));
+        return Err(no_such_object(alloc, b"id"));
     };
     match row.item.transfer() {
         Some(transfer) => reverse_of(alloc, call, row, transfer, batch),
-        None => Err(Refusal::of(ApiError::no_such_object(alloc, b"id"))),
+        None => Err(no_such_object(alloc, b"id")),
     }
 }
