@@ -1,0 +1,3 @@
+pub mod FeeRefundLemmas
+pub mod ReversalLemmas
+pub mod RoomLemmas

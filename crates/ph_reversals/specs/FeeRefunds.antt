@@ -1,5 +1,6 @@
 -- The rows of a refund of an application fee.
-use Rattle.std.specs.Prelude.{ℕ, ◌+◌, ◌-◌, max, ℤ, pos, neg_ℤ, List}
+use Rattle.std.specs.Prelude.{ℕ, ◌+◌, ◌-◌, max, ℤ, pos, neg_ℤ, List, [], ◌∷◌}
+use Rattle.ph_charges.specs.NewRows.{NewRow, with_new_rows}
 use Rattle.ph_items.specs.declared.event_kinds.EventKind.TheVariants as event
 use Rattle.ph_items.specs.declared.fee_refunds.FeeRefund.{FeeRefund}
 use Rattle.ph_items.specs.declared.fees.Fee.{Fee}
@@ -20,14 +21,14 @@ left_of_fee fee = fee.amount - fee.amount_refunded
 abbrev pub given_back_from : ℕ → Fee → ℕ
 given_back_from now fee = max now fee.available_on
 
--- the refund of an amount of the application fee of a number, whose row is the next one: the transaction that takes it from the
--- platform stands behind it
-abbrev pub new_fee_refund : ℕ → Fee → ℕ → List MetadataPair → BatchState → FeeRefund
-new_fee_refund object fee amount metadata batch = record {
+-- the refund of an amount of the application fee of a number: the transaction that takes it from the platform stands behind it, whose
+-- number is this
+abbrev pub new_fee_refund : ℕ → ℕ → Fee → ℕ → List MetadataPair → FeeRefund
+new_fee_refund number object fee amount metadata = record {
   fee = object;
   amount = amount;
   currency = fee.currency;
-  transaction = last_place batch + 2;
+  transaction = number + 1;
   metadata = metadata;
 }
 
@@ -42,28 +43,19 @@ fee_refund_txn number sort amount fee now = record {
   source = source.FeeRefund number;
 }
 
--- the batch with a fee refund, whose number is the next place
-abbrev pub with_new_fee_refund : FeeRefund → BatchState → BatchState
-with_new_fee_refund refund batch = with_row batch (last_place batch + 1) platform (item.FeeRefund refund)
+-- the rows of the fee refund of a number, of an amount of an application fee: it, the transaction that takes the amount from the
+-- platform, and the one that gives it to the account that the fee was taken from
+abbrev pub fee_refund_rows : ℕ → FeeRefund → Fee → ℕ → ℕ → List NewRow
+fee_refund_rows number refund fee amount now =
+    record { account = platform; item = item.FeeRefund refund } ∷
+    record { account = platform; item = item.Txn (fee_refund_txn number sort.ApplicationFeeRefund (neg_ℤ (pos amount)) fee now) } ∷
+    record { account = fee.account; item = item.Txn (fee_refund_txn number sort.Adjustment (pos amount) fee now) } ∷ []
 
--- the batch with the transaction that takes the amount of the fee refund in its last row from the platform
-abbrev pub with_fee_taken : Fee → ℕ → BatchState → BatchState
-with_fee_taken fee amount batch =
-    with_row batch (last_place batch + 1) platform
-    (item.Txn (fee_refund_txn (last_place batch) sort.ApplicationFeeRefund (neg_ℤ (pos amount)) fee batch.at))
-
--- the batch with the transaction that gives the amount of the fee refund of a number to the account that the fee was taken from
-abbrev pub with_fee_given : ℕ → Fee → ℕ → BatchState → BatchState
-with_fee_given number fee amount batch =
-    with_row batch (last_place batch + 1) fee.account
-    (item.Txn (fee_refund_txn number sort.Adjustment (pos amount) fee batch.at))
-
--- the batch with the rows of a refund of an amount of the application fee of a number: the fee refund, what it takes from the
--- platform, what it gives to the account that the fee was taken from
+-- the batch with the rows of the refund of an amount of the application fee of a number
 abbrev pub with_fee_refund : ℕ → Fee → ℕ → List MetadataPair → BatchState → BatchState
 with_fee_refund object fee amount metadata batch =
-    with_fee_given (last_place batch + 1) fee amount
-    (with_fee_taken fee amount (with_new_fee_refund (new_fee_refund object fee amount metadata batch) batch))
+    with_new_rows (fee_refund_rows (last_place batch + 1) (new_fee_refund (last_place batch + 1) object fee amount metadata)
+    fee amount batch.at) batch
 
 -- an application fee of which an amount more is given back
 abbrev pub given_back_fee : ℕ → Fee → Fee

@@ -1,5 +1,6 @@
 -- The rows of a reversal of a transfer.
-use Rattle.std.specs.Prelude.{ℕ, ◌+◌, ◌-◌, max, ℤ, pos, neg_ℤ, List, Option}
+use Rattle.std.specs.Prelude.{ℕ, ◌+◌, ◌-◌, max, ℤ, pos, neg_ℤ, List, [], ◌∷◌, Option}
+use Rattle.ph_charges.specs.NewRows.{NewRow, with_new_rows}
 use Rattle.ph_items.specs.declared.event_kinds.EventKind.TheVariants as event
 use Rattle.ph_items.specs.declared.items.Item.TheVariants as item
 use Rattle.ph_items.specs.declared.metadata_pairs.MetadataPair.{MetadataPair}
@@ -20,15 +21,15 @@ left_of_transfer transfer = transfer.amount - transfer.amount_reversed
 abbrev pub reversed_from : ℕ → Transfer → ℕ
 reversed_from now transfer = max now transfer.available_on
 
--- the reversal of an amount of the transfer of a number, by a refund or not, whose row is the next one: the transaction that gives
--- it to the platform stands behind it
-abbrev pub new_reversal : ℕ → Transfer → ℕ → Option ℕ → List MetadataPair → BatchState → Reversal
-new_reversal object transfer amount refund metadata batch = record {
+-- the reversal of an amount of the transfer of a number, by a refund or not: the transaction that gives it to the platform stands
+-- behind it, whose number is this
+abbrev pub new_reversal : ℕ → ℕ → Transfer → ℕ → Option ℕ → List MetadataPair → Reversal
+new_reversal number object transfer amount refund metadata = record {
   transfer = object;
   amount = amount;
   currency = transfer.currency;
   refund = refund;
-  transaction = last_place batch + 2;
+  transaction = number + 1;
   metadata = metadata;
 }
 
@@ -43,28 +44,19 @@ reversal_txn number sort amount transfer now = record {
   source = source.Reversal number;
 }
 
--- the batch with a reversal, whose number is the next place
-abbrev pub with_new_reversal : Reversal → BatchState → BatchState
-with_new_reversal reversal batch = with_row batch (last_place batch + 1) platform (item.Reversal reversal)
+-- the rows of the reversal of a number, of an amount of a transfer: it, the transaction that gives the amount to the platform, and
+-- the one that takes it from the account that the transfer went to
+abbrev pub reversal_rows : ℕ → Reversal → Transfer → ℕ → ℕ → List NewRow
+reversal_rows number reversal transfer amount now =
+    record { account = platform; item = item.Reversal reversal } ∷
+    record { account = platform; item = item.Txn (reversal_txn number sort.Transfer (pos amount) transfer now) } ∷
+    record { account = transfer.destination; item = item.Txn (reversal_txn number sort.Adjustment (neg_ℤ (pos amount)) transfer now) } ∷ []
 
--- the batch with the transaction that gives the amount of the reversal in its last row to the platform
-abbrev pub with_given : Transfer → ℕ → BatchState → BatchState
-with_given transfer amount batch =
-    with_row batch (last_place batch + 1) platform
-    (item.Txn (reversal_txn (last_place batch) sort.Transfer (pos amount) transfer batch.at))
-
--- the batch with the transaction that takes the amount of the reversal of a number from the account that the transfer went to
-abbrev pub with_taken : ℕ → Transfer → ℕ → BatchState → BatchState
-with_taken number transfer amount batch =
-    with_row batch (last_place batch + 1) transfer.destination
-    (item.Txn (reversal_txn number sort.Adjustment (neg_ℤ (pos amount)) transfer batch.at))
-
--- the batch with the rows of a reversal of an amount of the transfer of a number: the reversal, what it gives to the platform, what
--- it takes from the account that the transfer went to
+-- the batch with the rows of the reversal of an amount of the transfer of a number
 abbrev pub with_reversal : ℕ → Transfer → ℕ → Option ℕ → List MetadataPair → BatchState → BatchState
 with_reversal object transfer amount refund metadata batch =
-    with_taken (last_place batch + 1) transfer amount
-    (with_given transfer amount (with_new_reversal (new_reversal object transfer amount refund metadata batch) batch))
+    with_new_rows (reversal_rows (last_place batch + 1) (new_reversal (last_place batch + 1) object transfer amount refund metadata)
+    transfer amount batch.at) batch
 
 -- a transfer of which an amount more is reversed
 abbrev pub reversed_transfer : ℕ → Transfer → Transfer

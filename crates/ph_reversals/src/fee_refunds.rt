@@ -1,9 +1,11 @@
 //! The rows of a refund of an application fee.
-ghost use Rattle.std.specs.Prelude.{◌≡◌, ◌+◌, ◌≤◌, ◌-◌, ℤ, IfOk, OnOk};
+ghost use Rattle.std.specs.Prelude.{◌≡◌, ◌+◌, ◌≤◌, ◌<◌, ◌^◌, ℤ, IfOk, OnOk};
+ghost use Rattle.ph_charges.specs.NewRows.{with_new_rows};
 ghost use Rattle.ph_rows.specs.Batches.{last_place};
-ghost use Rattle.ph_reversals.specs.FeeRefunds.{fee_refund_txn, given_back_fee, left_of_fee, new_fee_refund, with_fee_given, with_fee_refund, with_fee_taken, with_given_back};
+ghost use Rattle.ph_reversals.specs.FeeRefunds.{fee_refund_rows, fee_refund_txn, given_back_fee, left_of_fee, new_fee_refund, with_fee_refund, with_given_back};
 
 use crate::amounts::{left, taken_with};
+use crate::numbers::next_number;
 use ph_base::NoMemory;
 use ph_items::{EventKind, Fee, FeeRefund, Item, Metadata, PLATFORM, Txn, TxnSource, TxnType};
 use ph_money::{Amount, SignedAmount};
@@ -16,27 +18,24 @@ pub fn left_of_fee(fee: &Fee) -> Amount
     left(fee.amount, fee.amount_refunded)
 }
 
-// The refund of an amount of the application fee of a number, whose row is the next one.
+// The fee refund of a number, of an amount of the application fee of a number.
 fn new_fee_refund(
+    number: u64,
     object: u64,
     fee: &Fee,
     amount: Amount,
     metadata: Metadata,
-    batch: &Batch,
-) -> Result<FeeRefund, NoMemory>
-    ensures { IfOk result (λ refund. refund ≡ new_fee_refund object fee.now amount metadata batch.now) }
+) -> FeeRefund
+    requires { number < 2 ^ 63 }
+    ensures { result ≡ new_fee_refund number object fee.now amount metadata }
 {
-    // No memory holds so many rows that 64 bits don't number them.
-    let Some(transaction) = batch.count().checked_add(2) else {
-        return Err(NoMemory);
-    };
-    Ok(FeeRefund {
+    FeeRefund {
         fee: object,
         amount,
         currency: fee.currency,
-        transaction,
+        transaction: number + 1,
         metadata,
-    })
+    }
 }
 
 // A transaction of the fee refund of a number.
@@ -53,24 +52,24 @@ fn fee_refund_txn(number: u64, sort: TxnType, amount: SignedAmount, fee: &Fee, n
     }
 }
 
-// Adds the transaction that takes the amount of the fee refund in the batch's last row from the platform.
-fn add_fee_taken(fee: &Fee, amount: Amount, batch: &mut Batch) -> Result<(), NoMemory>
-    ensures { OnOk result (batch.new ≡ with_fee_taken fee.now amount batch.old) }
+// Adds the rows of the fee refund of a number, of an amount of an application fee.
+fn add_rows(
+    number: u64,
+    refund: FeeRefund,
+    fee: &Fee,
+    amount: Amount,
+    batch: &mut Batch,
+) -> Result<(), NoMemory>
+    ensures { OnOk result (batch.new ≡ with_new_rows (fee_refund_rows number refund fee.now amount batch.old.at) batch.old) }
 {
     let sort = TxnType::ApplicationFeeRefund;
     let taken = SignedAmount::taken(amount);
-    let txn = fee_refund_txn(batch.count(), sort, taken, fee, batch.at());
-    batch.add(PLATFORM, Item::Txn(txn))?;
-    Ok(())
-}
-
-// Adds the transaction that gives the amount of the fee refund of a number to the account that the fee was taken from.
-fn add_fee_given(number: u64, fee: &Fee, amount: Amount, batch: &mut Batch) -> Result<(), NoMemory>
-    ensures { OnOk result (batch.new ≡ with_fee_given number fee.now amount batch.old) }
-{
+    let takes = fee_refund_txn(number, sort, taken, fee, batch.at());
     let given = SignedAmount::given(amount);
-    let txn = fee_refund_txn(number, TxnType::Adjustment, given, fee, batch.at());
-    batch.add(fee.account, Item::Txn(txn))?;
+    let gives = fee_refund_txn(number, TxnType::Adjustment, given, fee, batch.at());
+    batch.add(PLATFORM, Item::FeeRefund(refund))?;
+    batch.add(PLATFORM, Item::Txn(takes))?;
+    batch.add(fee.account, Item::Txn(gives))?;
     Ok(())
 }
 
@@ -86,10 +85,9 @@ pub fn add_fee_refund(
     ensures number { IfOk result (λ number. number ≡ last_place batch.old + 1) }
     ensures rows { OnOk result (batch.new ≡ with_fee_refund object fee.now amount metadata batch.old) }
 {
-    let refund = new_fee_refund(object, fee, amount, metadata, batch)?;
-    let number = batch.add(PLATFORM, Item::FeeRefund(refund))?;
-    add_fee_taken(fee, amount, batch)?;
-    add_fee_given(number, fee, amount, batch)?;
+    let number = next_number(batch)?;
+    let refund = new_fee_refund(number, object, fee, amount, metadata);
+    add_rows(number, refund, fee, amount, batch)?;
     Ok(number)
 }
 

@@ -3,8 +3,10 @@
 
 mod amounts;
 mod fee_refunds;
+mod numbers;
 mod reversals;
 
 pub use amounts::{left, taken_with};
 pub use fee_refunds::{add_fee_refund, left_of_fee, tell_given_back};
+pub use numbers::next_number;
 pub use reversals::{add_reversal, left_of_transfer, tell_reversed};

@@ -1,9 +1,11 @@
 //! The rows of a reversal of a transfer.
-ghost use Rattle.std.specs.Prelude.{◌≡◌, ◌+◌, ◌≤◌, ◌-◌, ℤ, IfOk, OnOk};
+ghost use Rattle.std.specs.Prelude.{◌≡◌, ◌+◌, ◌≤◌, ◌<◌, ◌^◌, ℤ, IfOk, OnOk};
+ghost use Rattle.ph_charges.specs.NewRows.{with_new_rows};
 ghost use Rattle.ph_rows.specs.Batches.{last_place};
-ghost use Rattle.ph_reversals.specs.Reversals.{left_of_transfer, new_reversal, reversal_txn, reversed_transfer, with_given, with_reversal, with_reversed, with_taken};
+ghost use Rattle.ph_reversals.specs.Reversals.{left_of_transfer, new_reversal, reversal_rows, reversal_txn, reversed_transfer, with_reversal, with_reversed};
 
 use crate::amounts::{left, taken_with};
+use crate::numbers::next_number;
 use ph_base::NoMemory;
 use ph_items::{EventKind, Item, Metadata, PLATFORM, Reversal, Transfer, Txn, TxnSource, TxnType};
 use ph_money::{Amount, SignedAmount};
@@ -16,29 +18,26 @@ pub fn left_of_transfer(transfer: &Transfer) -> Amount
     left(transfer.amount, transfer.amount_reversed)
 }
 
-// The reversal of an amount of the transfer of a number, whose row is the next one.
+// The reversal of a number, of an amount of the transfer of a number.
 fn new_reversal(
+    number: u64,
     object: u64,
     transfer: &Transfer,
     amount: Amount,
     refund: Option<u64>,
     metadata: Metadata,
-    batch: &Batch,
-) -> Result<Reversal, NoMemory>
-    ensures { IfOk result (λ reversal. reversal ≡ new_reversal object transfer.now amount refund metadata batch.now) }
+) -> Reversal
+    requires { number < 2 ^ 63 }
+    ensures { result ≡ new_reversal number object transfer.now amount refund metadata }
 {
-    // No memory holds so many rows that 64 bits don't number them.
-    let Some(transaction) = batch.count().checked_add(2) else {
-        return Err(NoMemory);
-    };
-    Ok(Reversal {
+    Reversal {
         transfer: object,
         amount,
         currency: transfer.currency,
         refund,
-        transaction,
+        transaction: number + 1,
         metadata,
-    })
+    }
 }
 
 // A transaction of the reversal of a number.
@@ -61,34 +60,23 @@ fn reversal_txn(
     }
 }
 
-// Adds the transaction that gives the amount of the reversal in the batch's last row to the platform.
-fn add_given(transfer: &Transfer, amount: Amount, batch: &mut Batch) -> Result<(), NoMemory>
-    ensures { OnOk result (batch.new ≡ with_given transfer.now amount batch.old) }
-{
-    let given = SignedAmount::given(amount);
-    let txn = reversal_txn(
-        batch.count(),
-        TxnType::Transfer,
-        given,
-        transfer,
-        batch.at(),
-    );
-    batch.add(PLATFORM, Item::Txn(txn))?;
-    Ok(())
-}
-
-// Adds the transaction that takes the amount of the reversal of a number from the account that the transfer went to.
-fn add_taken(
+// Adds the rows of the reversal of a number, of an amount of a transfer.
+fn add_rows(
     number: u64,
+    reversal: Reversal,
     transfer: &Transfer,
     amount: Amount,
     batch: &mut Batch,
 ) -> Result<(), NoMemory>
-    ensures { OnOk result (batch.new ≡ with_taken number transfer.now amount batch.old) }
+    ensures { OnOk result (batch.new ≡ with_new_rows (reversal_rows number reversal transfer.now amount batch.old.at) batch.old) }
 {
+    let given = SignedAmount::given(amount);
+    let gives = reversal_txn(number, TxnType::Transfer, given, transfer, batch.at());
     let taken = SignedAmount::taken(amount);
-    let txn = reversal_txn(number, TxnType::Adjustment, taken, transfer, batch.at());
-    batch.add(transfer.destination, Item::Txn(txn))?;
+    let takes = reversal_txn(number, TxnType::Adjustment, taken, transfer, batch.at());
+    batch.add(PLATFORM, Item::Reversal(reversal))?;
+    batch.add(PLATFORM, Item::Txn(gives))?;
+    batch.add(transfer.destination, Item::Txn(takes))?;
     Ok(())
 }
 
@@ -106,10 +94,9 @@ pub fn add_reversal(
     ensures number { IfOk result (λ number. number ≡ last_place batch.old + 1) }
     ensures rows { OnOk result (batch.new ≡ with_reversal object transfer.now amount refund metadata batch.old) }
 {
-    let reversal = new_reversal(object, transfer, amount, refund, metadata, batch)?;
-    let number = batch.add(PLATFORM, Item::Reversal(reversal))?;
-    add_given(transfer, amount, batch)?;
-    add_taken(number, transfer, amount, batch)?;
+    let number = next_number(batch)?;
+    let reversal = new_reversal(number, object, transfer, amount, refund, metadata);
+    add_rows(number, reversal, transfer, amount, batch)?;
     Ok(number)
 }
 
