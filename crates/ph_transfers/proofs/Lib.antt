@@ -1,0 +1,5 @@
+mod EntryLemmas
+mod FoundLemmas
+pub mod LawLemmas
+mod ReturnLemmas
+mod SpokenLemmas

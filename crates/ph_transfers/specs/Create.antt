@@ -1,5 +1,5 @@
 -- The transfer.
-use Rattle.std.specs.Prelude.{ℕ, ◌+◌, ◌==◌, not, nat_lt, int_lt, if◌then◌else◌, pos, List, Option, None, Some, codes}
+use Rattle.std.specs.Prelude.{ℕ, ◌+◌, ◌==◌, int_lt, if◌then◌else◌, pos, List, Option, None, Some, codes}
 use Rattle.ph_accounts.specs.Naming.{connected_named}
 use Rattle.ph_base.specs.declared.ids.Kind.TheVariants as kind
 use Rattle.ph_calls.specs.declared.call.CreateTransfer.{CreateTransfer}
@@ -16,7 +16,7 @@ use Rattle.ph_rows.specs.Balances.{available_of}
 use Rattle.ph_rows.specs.Batches.{BatchState, last_place}
 use Rattle.ph_rows.specs.Names.{object_named}
 use Rattle.ph_transfers.specs.Entry.{Drawn, left_to_transfer, with_transfer}
-use Rattle.ph_transfers.specs.Found.{made_of_row}
+use Rattle.ph_transfers.specs.Found.{is_too_much, made_of_row}
 
 -- the transfer to an account, drawn on a charge or not; the answer is the transfer
 abbrev pub transfer_made : CreateTransfer → ℕ → Option Drawn → BatchState → Outcome
@@ -32,7 +32,7 @@ transfer_of_balance now rows call batch destination =
 -- the transfer drawn on a captured charge, of no more than is left of it
 abbrev pub transfer_left : CreateTransfer → BatchState → ℕ → Drawn → Outcome
 transfer_left call batch destination drawn =
-    if nat_lt (left_to_transfer drawn.charge) call.amount then Refuses (error_of (InvalidValue (codes "amount")))
+    if is_too_much (left_to_transfer drawn.charge) call.amount then Refuses (error_of (InvalidValue (codes "amount")))
     else transfer_made call destination (Some drawn) batch
 
 -- the same, in the charge's currency

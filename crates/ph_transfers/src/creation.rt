@@ -3,9 +3,10 @@ ghost use Rattle.std.specs.Prelude.{◌≡◌, codes};
 ghost use Rattle.std.specs.Option.{option_copied};
 ghost use Rattle.ph_facts.specs.Outcomes.{Gives};
 ghost use Rattle.ph_items.specs.Items.{charge_in};
-ghost use Rattle.ph_transfers.specs.Create.{transfer_drawn, transfer_of, transfer_of_balance, transfer_outcome};
+ghost use Rattle.ph_transfers.specs.Create.{transfer_drawn, transfer_of, transfer_of_balance, transfer_outcome, transfer_to};
 ghost use Rattle.ph_transfers.specs.Found.{made_of_row};
 
+use crate::amounts::is_too_much;
 use crate::entry::{add_drawn, add_of_balance, left_to_transfer};
 use crate::refusals::no_such_object;
 use ph_accounts::connected_named;
@@ -48,7 +49,7 @@ fn transfer_drawn(
     if call.currency as u8 != charge.currency as u8 {
         return Err(Refusal::of(ApiError::invalid_value(alloc, b"currency")));
     }
-    if left_to_transfer(charge).units() < call.amount.units() {
+    if is_too_much(left_to_transfer(charge), call.amount) {
         return Err(Refusal::of(ApiError::invalid_value(alloc, b"amount")));
     }
     let number = add_drawn(alloc, call, destination, row, charge, capture, batch)?;
@@ -92,11 +93,33 @@ fn transfer_of_row(
     }
 }
 
+// The transfer to the connected account that was found, where one was.
+fn transfer_to<V: View>(
+    alloc: Global,
+    view: &V,
+    call: &CreateTransfer,
+    found: Option<u64>,
+    batch: &mut Batch,
+) -> Result<u64, Refusal>
+    ensures { Gives (transfer_to (transfer_of call.now batch.old) (V.state view.now).time (V.state view.now).rows call.now batch.old found) batch.old result batch.new }
+{
+    let Some(destination) = found else {
+        return Err(no_such_object(alloc, b"destination"));
+    };
+    match &call.source_transaction {
+        Some(text) => {
+            let row = object_named(view, Kind::Charge, text.as_slice());
+            transfer_of_row(alloc, call, destination, row, batch)
+        }
+        None => transfer_of_balance(alloc, view, call, destination, batch),
+    }
+}
+
 /// Gives an amount of the platform's to the connected account that the call names: drawn on the captured card charge that it
 /// names, whatever that one's account, or else out of the platform's available balance. It is refused where the call isn't the
 /// platform's, where there is no such connected account, where there is no such captured charge, for another currency than
-/// the charge's, for more than is left of the charge, and without a charge for more than is available; in this order. The
-/// answer is the transfer's number.
+/// the charge's, where nothing is left of the charge, or less than that, and without a charge for more than is available; in
+/// this order. The answer is the transfer's number.
 pub fn create<V: View>(
     alloc: Global,
     view: &V,
@@ -109,14 +132,6 @@ pub fn create<V: View>(
     if account != PLATFORM {
         return Err(Refusal::of(ApiError::platform_only(alloc)));
     }
-    let Some(destination) = connected_named(view, call.destination.as_slice()) else {
-        return Err(no_such_object(alloc, b"destination"));
-    };
-    match &call.source_transaction {
-        Some(text) => {
-            let row = object_named(view, Kind::Charge, text.as_slice());
-            transfer_of_row(alloc, call, destination, row, batch)
-        }
-        None => transfer_of_balance(alloc, view, call, destination, batch),
-    }
+    let destination = connected_named(view, call.destination.as_slice());
+    transfer_to(alloc, view, call, destination, batch)
 }

@@ -9,31 +9,15 @@ use ph_charges::add_transfer;
 use ph_items::{Capture, Charge, EventKind, Item, Transfer, copy_text};
 use ph_kinds::first_metadata;
 use ph_money::Amount;
-use ph_reversals::{left, taken_with};
+use ph_reversals::{left, next_number, taken_with};
 use ph_rows::{Batch, Row};
 use std::alloc::Global;
-
-// A place is only numbered below this, so that the next ones are too.
-const MOST_PLACES: u64 = 1 << 62;
 
 /// What can still be transferred of a charge, in minor units of its currency.
 pub fn left_to_transfer(charge: &Charge) -> Amount
     ensures { result ≡ left_to_transfer charge.now }
 {
     left(charge.amount_captured, charge.amount_transferred)
-}
-
-// The number that the next row's object has.
-fn next_number(batch: &Batch) -> Result<u64, NoMemory>
-    ensures number { IfOk result (λ number. number ≡ last_place batch.now + 1) }
-    ensures few { IfOk result (λ number. number < 2 ^ 63) }
-{
-    // No memory holds so many rows that 63 bits don't number them.
-    if batch.count() < MOST_PLACES {
-        Ok(batch.count() + 1)
-    } else {
-        Err(NoMemory)
-    }
 }
 
 // The transfer of a number that a call makes to an account, drawn on the charge of a number or on none, that counts from a
