@@ -41,7 +41,7 @@ use Rattle.ph_facts.proofs.UnderwayLemmas.{underway_announced}
 use Rattle.ph_charges.specs.Transfers.{transfer_rows}
 use Rattle.ph_charges.proofs.AmountLemmas.{IsUnused, new_is_unused}
 use Rattle.ph_charges.proofs.NewRowLemmas.{AllStand, new_rows_are, row_here, rows_from}
-use Rattle.ph_charges.proofs.TransferLemmas.{arriving_row, own_row, payment_captures, payment_refunds, payment_row, payment_transfers, transfer_stands}
+use Rattle.ph_charges.proofs.TransferLemmas.{arriving_row, leaving_row, own_row, payment_captures, payment_refunds, payment_row, payment_transfers, transfer_stands}
 use Rattle.ph_reversals.proofs.RoomLemmas.{HasRoom, begun_behind, entered_as, isnt_later, room_after, room_further, room_new}
 use Rattle.ph_transfers.specs.Entry.{Drawn, drawn_charge, drawn_on, left_to_transfer, new_transfer, transferred_from, with_drawn, with_given, with_transfer}
 use Rattle.ph_transfers.specs.Laws.{transfer_texts}
@@ -140,6 +140,10 @@ paid n at transfer = row_here (n + 1 + 1) at (payment_row n transfer)
 abbrev arrived : ℕ → ℕ → Transfer → Row
 arrived n at transfer = row_here (n + 1 + 1 + 1) at (arriving_row n transfer 0)
 
+-- those behind its own
+abbrev behind_own : ℕ → ℕ → Transfer → List Row
+behind_own n at transfer = row_here (n + 1) at (leaving_row n transfer) ∷ paid n at transfer ∷ arrived n at transfer ∷ []
+
 -- what was captured of its payment
 paid_captures : (rows : List Row) (n at : ℕ) (transfer : Transfer) → IsUnused (n + 1 + 1) rows
     → Spoken captured rows (paid n at transfer ∷ arrived n at transfer ∷ [])
@@ -183,7 +187,7 @@ balance_spoken state n at transfer sound later undrawn none = record {
         ∙ ap (option_map (λ (charge : ℕ). record { object = charge; amount = transfer.amount })) undrawn)
 
     heard : filter (speaks transferred) list ≡ paid n at transfer ∷ []
-    heard = heard_without transferred (own n at transfer) _ quiet
+    heard = heard_without transferred (own n at transfer) (behind_own n at transfer) quiet
 
 -- ---- a transfer drawn on a charge
 
@@ -295,7 +299,9 @@ drawn_spoken state n at place amount transfer drawn sound later from source same
     list = rows_from n at (transfer_rows n transfer 0) ++ drawn_row place at amount drawn ∷ []
 
     heard : filter (speaks transferred) list ≡ own n at transfer ∷ paid n at transfer ∷ drawn_row place at amount drawn ∷ []
-    heard = heard_with transferred (own n at transfer) _ (first_speaks (own n at transfer) transfer drawn.row.object refl source refl)
+    heard =
+        heard_with transferred (own n at transfer) (behind_own n at transfer ++ drawn_row place at amount drawn ∷ [])
+        (first_speaks (own n at transfer) transfer drawn.row.object refl source refl)
 
 -- ---- the whole
 
