@@ -1,6 +1,6 @@
 -- The laws of transfers, reversals and fee refunds.
 use Rattle.std.specs.Prelude.{◌==◌, int_lt, pos, unwrap_or, codes}
-use Rattle.std.proofs.Common.{◌≡◌, ℕ, ◌+◌, ◌≤◌, ◌<◌, Bool, true, false, cond, List, Option, None, Some, refl, ap, arith}
+use Rattle.std.proofs.Common.{◌≡◌, ℕ, Bool, true, false, cond, List, Option, None, Some, refl, ap, arith}
 use Rattle.std.proofs.lemmas.Bool.{cond_both}
 use Rattle.ph_accounts.specs.Naming.{connected_named}
 use Rattle.ph_base.specs.declared.ids.Kind.TheVariants as kind
@@ -26,13 +26,13 @@ use Rattle.ph_facts.proofs.DoneLemmas.{Refusing, no_object, of_platform, funds_s
 use Rattle.ph_facts.proofs.PresentLemmas.{IsCharge, IsFee, IsTransfer, charge_says, fee_says, transfer_says}
 use Rattle.ph_reversals.specs.FeeRefunds.{left_of_fee}
 use Rattle.ph_reversals.specs.Reversals.{left_of_transfer}
-use Rattle.ph_transfers.specs.Create.{transfer_by, transfer_drawn, transfer_from, transfer_left, transfer_made, transfer_of, transfer_of_balance, transfer_outcome, transfer_to, transfer_with}
+use Rattle.ph_transfers.specs.Create.{transfer_by, transfer_from, transfer_left, transfer_made, transfer_of, transfer_of_balance, transfer_outcome, transfer_to, transfer_with}
 use Rattle.ph_transfers.specs.Entry.{Drawn, left_to_transfer}
 use Rattle.ph_transfers.specs.Found.{is_too_much, made_within}
 use Rattle.ph_transfers.specs.Laws.{FeeRefundsAreSums, ReversalsAreSums, TransfersAreSums, refund_fee_texts, reverse_texts, summed_charge, summed_fee, summed_transfer, transfer_texts}
 use Rattle.ph_transfers.specs.RefundFee.{refund_fee_amount, refund_fee_of, refund_fee_outcome}
 use Rattle.ph_transfers.specs.Reverse.{reverse_amount, reverse_of, reverse_outcome}
-use Rattle.ph_transfers.proofs.EntryLemmas.{IsSource, transfer_enters}
+use Rattle.ph_transfers.proofs.EntryLemmas.{transfer_enters}
 use Rattle.ph_transfers.proofs.FoundLemmas.{alike_row, charge_at, fee_at, kept_within, transfer_at, within_left}
 use Rattle.ph_transfers.proofs.ReturnLemmas.{fee_refund_enters, reversal_enters}
 

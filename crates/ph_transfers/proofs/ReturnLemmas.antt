@@ -1,7 +1,7 @@
 -- The rows of a reversal and of a fee refund may be entered.
-use Rattle.std.specs.List.{filter, list_any}
+use Rattle.std.specs.List.{list_any}
 use Rattle.std.specs.Prelude.{◌||◌}
-use Rattle.std.proofs.Common.{◌≡◌, ℕ, ◌+◌, ◌≤◌, ◌<◌, Bool, false, List, [], ◌∷◌, ◌++◌, None, length, refl, ap, arith}
+use Rattle.std.proofs.Common.{◌≡◌, ℕ, ◌+◌, ◌≤◌, Bool, false, None, length, refl, ap, arith}
 use Rattle.ph_base.specs.declared.ids.Kind.TheVariants as kind
 use Rattle.ph_calls.specs.declared.call.RefundFee.{RefundFee}
 use Rattle.ph_calls.specs.declared.call.ReverseTransfer.{ReverseTransfer}
