@@ -53,17 +53,9 @@ keeps_at most operation state account text sound keeps = at (owned_named state.r
     item_is : (row : Row) → row_at row.place state.rows ≡ Some row → latest_of row.object state.rows ≡ Some row
         → row.account ≡ account → (content : Item) → row.item ≡ content
         → KeepsRows state most (made_of (operation row.object) (intent_in content))
-    item_is row stands latest owner (item.Account other) is = no_object (codes "id")
     item_is row stands latest owner (item.Intent intent) is =
         keeps row intent (record { stands = stands; latest = latest; owner = owner; is = is })
-    item_is row stands latest owner (item.Attempt attempt) is = no_object (codes "id")
-    item_is row stands latest owner (item.Charge charge) is = no_object (codes "id")
-    item_is row stands latest owner (item.Refund refund) is = no_object (codes "id")
-    item_is row stands latest owner (item.Dispute dispute) is = no_object (codes "id")
-    item_is row stands latest owner (item.Transfer transfer) is = no_object (codes "id")
-    item_is row stands latest owner (item.Fee fee) is = no_object (codes "id")
-    item_is row stands latest owner (item.Txn txn) is = no_object (codes "id")
-    item_is row stands latest owner (item.Event event) is = no_object (codes "id")
+    item_is row stands latest owner other is = no_object (codes "id")
 
     at : (found : Option Row) → owned_named state.rows account kind.Intent text ≡ found
         → KeepsRows state most (made_of_row operation found)

@@ -7,7 +7,6 @@ use Rattle.std.proofs.lemmas.List.{append_assoc}
 use Rattle.ph_base.specs.declared.ids.Kind.TheVariants as kind
 use Rattle.ph_rows.specs.declared.rows.Row.{Row}
 use Rattle.ph_items.specs.declared.charges.Charge.{Charge}
-use Rattle.ph_items.specs.declared.items.Item.{Item}
 use Rattle.ph_items.specs.declared.items.Item.TheVariants as item
 use Rattle.ph_items.specs.declared.intents.Intent.{Intent}
 use Rattle.ph_items.specs.Charges.{charge_kind}
@@ -19,6 +18,7 @@ use Rattle.ph_facts.specs.Held.{IsHeldBy, charge_of}
 use Rattle.ph_rows.specs.Views.{ViewState}
 use Rattle.ph_rows.proofs.RowLemmas.{is_version, latest_of-apart, row_at-before}
 use Rattle.ph_facts.proofs.OrderLemmas.{latest_of_order}
+use Rattle.ph_facts.proofs.VersionLemmas.{charge_is}
 
 -- something holds of each row
 abbrev pub Each : (Row → Type 0) → List Row → Type 0
@@ -79,23 +79,10 @@ pub record HasCharge (rows : List Row) (number : ℕ) (charge : Charge) : Type 0
 pub charge_row : (rows : List Row) (number : ℕ) (charge : Charge) → charge_of rows number ≡ Some charge → HasCharge rows number charge
 charge_row rows number charge e = at (latest_of number rows) refl e
   where
-    in_item : (row : Row) → latest_of number rows ≡ Some row → (content : Item) → row.item ≡ content → charge_in content ≡ Some charge
-        → HasCharge rows number charge
-    in_item row l (item.Account account) is e = absurd (cc)
-    in_item row l (item.Intent intent) is e = absurd (cc)
-    in_item row l (item.Attempt attempt) is e = absurd (cc)
-    in_item row l (item.Charge version) is e = record { row = row; latest = l; is = is ∙ (let same : version ≡ charge = cc in ap item.Charge same) }
-    in_item row l (item.Refund refund) is e = absurd (cc)
-    in_item row l (item.Dispute dispute) is e = absurd (cc)
-    in_item row l (item.Transfer transfer) is e = absurd (cc)
-    in_item row l (item.Fee fee) is e = absurd (cc)
-    in_item row l (item.Txn txn) is e = absurd (cc)
-    in_item row l (item.Event event) is e = absurd (cc)
-
     at : (found : Option Row) → latest_of number rows ≡ found → option_and_then (λ row. charge_in row.item) found ≡ Some charge
         → HasCharge rows number charge
     at None l e = absurd (cc)
-    at (Some row) l e = in_item row l row.item refl e
+    at (Some row) l e = record { row = row; latest = l; is = charge_is row.item charge e }
 
 -- the present version of a card charge stays with rows of which none is a version of a charge
 pub charge_stays : (state : ViewState) (more : List Row) (number : ℕ) (charge : Charge) → IsInOrder state → AllMayFollow state more
