@@ -1,10 +1,10 @@
 -- Evidence and closes may be entered.
 use Rattle.std.specs.Prelude.{◌||◌}
-use Rattle.std.proofs.Common.{◌≡◌, ℕ, ◌+◌, ◌^◌, ◌≤◌, ◌<◌, Bool, true, false, cond, List, [], ◌∷◌, ◌++◌, Option, length, refl, sym, ap, ◌∙◌, subst, arith, codes}
+use Rattle.std.proofs.Common.{◌≡◌, ℕ, ◌+◌, ◌^◌, ◌≤◌, ◌<◌, Bool, true, false, List, [], ◌∷◌, ◌++◌, Option, length, refl, sym, ap, ◌∙◌, subst, arith, codes}
 use Rattle.std.specs.List.{list_all, list_any}
 use Rattle.std.specs.Str.{is_utf8}
-use Rattle.std.proofs.lemmas.Bool.{cond_both, eq-eqb, false≢true, ne_eqb}
-use Rattle.std.proofs.lemmas.List.{append-nil, length-append}
+use Rattle.std.proofs.lemmas.Bool.{cond_both, false≢true, ne_eqb}
+use Rattle.std.proofs.lemmas.List.{length-append}
 use Rattle.ph_base.specs.declared.ids.Kind.TheVariants as kind
 use Rattle.ph_errors.specs.Table.{error_of, DisputeClosed}
 use Rattle.ph_items.specs.declared.disputes.Dispute.{Dispute}
@@ -18,7 +18,7 @@ use Rattle.ph_rows.specs.declared.rows.Row.{Row}
 use Rattle.ph_rows.specs.Batches.{BatchState, last_place, next_row}
 use Rattle.ph_rows.specs.Rows.{row_at, latest_of}
 use Rattle.ph_rows.specs.Views.{ViewState}
-use Rattle.ph_rows.proofs.RowLemmas.{is_version, latest_of-apart, latest_of-front, latest_of-last, row_at-before, row_at_within}
+use Rattle.ph_rows.proofs.RowLemmas.{is_version, latest_of-apart, latest_of-last, row_at-before, row_at_within}
 use Rattle.ph_facts.specs.Amounts.{given_move, moved, moves_in, moves_of, taken_move}
 use Rattle.ph_facts.specs.Entering.{IsToldBy, MayBeEntered}
 use Rattle.ph_facts.specs.Keeps.{IsReady, KeepsRows, KeepsSound, MayBeAdded, batch_after, no_texts}
@@ -27,13 +27,12 @@ use Rattle.ph_facts.specs.Origins.{HasOrigins, IsOrigin, origins_of}
 use Rattle.ph_facts.specs.Outcomes.{Refuses, Adds}
 use Rattle.ph_facts.specs.Touches.{Untouched}
 use Rattle.ph_facts.proofs.DoneLemmas.{dispute_closed, no_object}
-use Rattle.ph_facts.specs.Tallies.{SaysSum}
 use Rattle.ph_facts.proofs.AmountLemmas.{moved_sum}
 use Rattle.ph_facts.proofs.FollowLemmas.{first_follows, further_follows}
 use Rattle.ph_facts.proofs.HeldLemmas.{held_beside}
-use Rattle.ph_facts.proofs.LawLemmas.{laws_of_dispute}
+use Rattle.ph_facts.proofs.LawLemmas.{laws_spoken, payments_none}
 use Rattle.ph_facts.proofs.OrderLemmas.{order_with, order_with_all, origin_stands, origins_stand, texts_stand}
-use Rattle.ph_facts.proofs.TallyLemmas.{sum_known}
+use Rattle.ph_facts.proofs.SpokenLemmas.{Spoken, spoken_adding, spoken_version}
 use Rattle.ph_disputes.specs.Answers.{answered_dispute, evidence_of, evidence_outcome, given_txn, verdict_on, with_evidence, with_verdict}
 use Rattle.ph_disputes.specs.Closing.{close_of, close_outcome, lost_dispute, with_closed, with_version}
 use Rattle.ph_disputes.specs.Finding.{if_open, is_closed}
@@ -86,19 +85,16 @@ module _ (state : ViewState) (entry : ℕ) (row : Row) (dispute after : Dispute)
   -- it is told, or not
   pub version_enters : taken_move dispute.amount ∷ [] ≡ moves_in after.status after.amount
       → MayBeEntered state (with_version row after begun)
-  version_enters same =
-      let says : SaysSum moved row.object (state.rows ++ version ∷ []) =
-      sum_known moved row.object state.rows (version ∷ []) version (moves_in after.status after.amount) moved_sum
-      (latest_of-front state.rows [] version refl) refl
-      (sym (append-nil (moves_of row.object state.rows) ∙ taken ∙ same)) in record {
-        began = refl;
-        at = refl;
-        follow = (version_follows, tt);
-        laws = laws_of_dispute state.rows (version ∷ []) row.object ready.sound.laws says
-            (λ other differs. ap (λ (b : Bool). b || false) (ne_eqb row.object other (λ alike. differs (sym alike)))) refl
-            (held_beside state (version ∷ []) order alone_in_order (tt, tt) ready.sound.laws.held);
-        told = tt;
-      }
+  version_enters same = record {
+    began = refl;
+    at = refl;
+    follow = (version_follows, tt);
+    laws = laws_spoken state.rows (version ∷ []) ready.sound.laws
+        (payments_none state.rows (version ∷ []) refl
+        (spoken_version moved state.rows version (moves_in after.status after.amount) moved_sum refl refl (sym (taken ∙ same))))
+        (held_beside state (version ∷ []) order alone_in_order (tt, tt) ready.sound.laws.held);
+    told = tt;
+  }
 
   told_of_version : (more : List Row) → list_any (is_version row.object) more ≡ false
       → IsToldBy (latest_of row.object (version ∷ more)) event.DisputeClosed
@@ -155,16 +151,12 @@ module _ (state : ViewState) (entry : ℕ) (row : Row) (dispute after : Dispute)
   no_version : list_any (is_version row.object) (given ∷ []) ≡ false
   no_version = ap (λ (b : Bool). b || false) (ne_eqb given.object row.object given_is_later)
 
-  given_back : moves_of row.object (version ∷ given ∷ []) ≡ given_move dispute.amount ∷ []
-  given_back = ap (λ (b : Bool). cond b (given_move dispute.amount ∷ []) [] ++ []) (eq-eqb row.object row.object refl)
-
+  -- it has moved what the rows before it say, and then what it gives back
   won_says : taken_move dispute.amount ∷ given_move dispute.amount ∷ [] ≡ moves_in after.status after.amount
-      → SaysSum moved row.object (state.rows ++ version ∷ given ∷ [])
+      → Spoken moved state.rows (version ∷ given ∷ [])
   won_says same =
-      sum_known moved row.object state.rows (version ∷ given ∷ []) version (moves_in after.status after.amount) moved_sum
-      (latest_of-front state.rows (given ∷ []) version no_version) refl
-      (sym (ap (λ front. front ++ moves_of row.object (version ∷ given ∷ [])) taken
-      ∙ ap (λ back. (taken_move dispute.amount ∷ []) ++ back) given_back ∙ same))
+      spoken_adding moved state.rows version given (given_move dispute.amount ∷ []) (moves_in after.status after.amount) moved_sum refl refl refl refl
+      (sym (ap (λ front. front ++ given_move dispute.amount ∷ []) taken ∙ same))
 
   pub won_enters : taken_move dispute.amount ∷ given_move dispute.amount ∷ [] ≡ moves_in after.status after.amount
       → MayBeEntered state (with_verdict status.Won row dispute (with_version row after begun))
@@ -172,8 +164,8 @@ module _ (state : ViewState) (entry : ℕ) (row : Row) (dispute after : Dispute)
     began = refl;
     at = refl;
     follow = both_follow;
-    laws = laws_of_dispute state.rows (version ∷ given ∷ []) row.object ready.sound.laws (won_says same)
-        (λ other differs. ap (λ (b : Bool). b || ((b || false) || false)) (ne_eqb row.object other (λ alike. differs (sym alike)))) refl
+    laws = laws_spoken state.rows (version ∷ given ∷ []) ready.sound.laws
+        (payments_none state.rows (version ∷ given ∷ []) refl (won_says same))
         (held_beside state (version ∷ given ∷ []) order both_in_order (tt, (tt, tt)) ready.sound.laws.held);
     told = (told_of_version (given ∷ []) no_version, tt);
   }

@@ -1,37 +1,22 @@
 -- The dispute that a path names, among sound rows.
-use Rattle.std.proofs.Common.{◌≡◌, ℕ, List, Option, None, Some, refl, ap}
+use Rattle.std.proofs.Common.{◌≡◌, ℕ, List, Option, None, Some, refl}
 use Rattle.ph_base.specs.declared.ids.Kind.TheVariants as kind
 use Rattle.ph_facts.specs.Outcomes.{Outcome}
 use Rattle.ph_rows.specs.declared.rows.Row.{Row}
 use Rattle.ph_items.specs.declared.disputes.Dispute.{Dispute}
-use Rattle.ph_items.specs.declared.items.Item.{Item}
 use Rattle.ph_items.specs.declared.items.Item.TheVariants as item
 use Rattle.ph_items.specs.Items.{dispute_in}
 use Rattle.ph_rows.specs.Names.{owned_named}
-use Rattle.ph_rows.specs.Rows.{row_at, latest_of}
 use Rattle.ph_facts.specs.Sound.{IsSound}
 use Rattle.ph_rows.specs.Views.{ViewState}
 use Rattle.ph_facts.proofs.FoundLemmas.{IsPresent, owned_found}
+use Rattle.ph_facts.proofs.PresentLemmas.{IsVersion}
+use Rattle.ph_facts.proofs.VersionLemmas.{dispute_is}
 use Rattle.ph_disputes.specs.Finding.{made_at, made_of, made_of_row, no_such_dispute}
 
 -- a row is the present version of a dispute, and stands at its place
-pub record IsFound (rows : List Row) (row : Row) (dispute : Dispute) : Type 0 where
-  pub stands : row_at row.place rows ≡ Some row
-  pub latest : latest_of row.object rows ≡ Some row
-  pub is : row.item ≡ item.Dispute dispute
-
--- the item of which there is a dispute is its version
-dispute_is : (content : Item) (dispute : Dispute) → dispute_in content ≡ Some dispute → content ≡ item.Dispute dispute
-dispute_is (item.Account account) dispute e = absurd (cc)
-dispute_is (item.Intent intent) dispute e = absurd (cc)
-dispute_is (item.Attempt attempt) dispute e = absurd (cc)
-dispute_is (item.Charge charge) dispute e = absurd (cc)
-dispute_is (item.Refund refund) dispute e = absurd (cc)
-dispute_is (item.Dispute version) dispute e = (let same : version ≡ dispute = cc in ap (λ (d : Dispute). item.Dispute d) same)
-dispute_is (item.Transfer transfer) dispute e = absurd (cc)
-dispute_is (item.Fee fee) dispute e = absurd (cc)
-dispute_is (item.Txn txn) dispute e = absurd (cc)
-dispute_is (item.Event event) dispute e = absurd (cc)
+abbrev pub IsFound : List Row → Row → Dispute → Type 0
+IsFound rows row dispute = IsVersion rows row (item.Dispute dispute)
 
 -- what is made of the dispute that a path names has a property, where the refusal has it, and what is made of each dispute
 -- among the rows

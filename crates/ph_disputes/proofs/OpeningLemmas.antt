@@ -1,9 +1,9 @@
 -- An opening may be entered with the batch to which it is added.
 use Rattle.std.specs.Prelude.{◌||◌, ◌-ℤ◌, option_and_then, neg_ℤ}
-use Rattle.std.proofs.Common.{◌≡◌, ℕ, ◌+◌, ◌^◌, ◌≤◌, ◌<◌, Bool, true, false, cond, eqb, List, [], ◌∷◌, ◌++◌, Option, None, Some, length, refl, sym, ap, ◌∙◌, subst, arith, pos, ◌+ℤ◌}
+use Rattle.std.proofs.Common.{◌≡◌, ℕ, ◌+◌, ◌^◌, ◌≤◌, ◌<◌, Bool, true, false, cond, eqb, List, [], ◌∷◌, ◌++◌, Option, None, Some, length, refl, sym, ap, ◌∙◌, subst, arith, pos}
 use Rattle.std.specs.List.{fold, list_any}
 use Rattle.std.specs.Option.{option_or}
-use Rattle.std.proofs.lemmas.Bool.{eq-eqb, ne_eqb}
+use Rattle.std.proofs.lemmas.Bool.{ne_eqb}
 use Rattle.std.proofs.lemmas.Int.{ints}
 use Rattle.std.proofs.lemmas.List.{append_assoc, length-append}
 use Rattle.ph_base.specs.declared.ids.Kind.{Kind}
@@ -23,8 +23,8 @@ use Rattle.ph_rows.specs.declared.batches.Announced.{Announced}
 use Rattle.ph_rows.specs.Batches.{BatchState, last_place, next_row, version_with}
 use Rattle.ph_rows.specs.Rows.{row_at, later_version, latest_of}
 use Rattle.ph_rows.specs.Views.{ViewState}
-use Rattle.ph_rows.proofs.RowLemmas.{is_version, latest_from, latest_of-apart, latest_of-behind, latest_of-front, latest_of-last, row_at-before, row_at-next, row_at_within}
-use Rattle.ph_facts.specs.Amounts.{Move, captured, captured_of, moved, moves_of, refunded, refunded_of, taken_move}
+use Rattle.ph_rows.proofs.RowLemmas.{is_version, latest_from, latest_of-apart, latest_of-last, row_at-before, row_at-next, row_at_within}
+use Rattle.ph_facts.specs.Amounts.{Move, captured, given_back, moved, moves_of, refunded, reversed, taken_move, transferred}
 use Rattle.ph_facts.proofs.DoneLemmas.{shown_before}
 use Rattle.ph_facts.specs.Keeps.{MayBeAdded}
 use Rattle.ph_facts.specs.Shown.{shown_in}
@@ -33,16 +33,16 @@ use Rattle.ph_facts.specs.Held.{AreHeld, charge_of}
 use Rattle.ph_facts.specs.Order.{AllMayFollow, IsInOrder, IsWithin, MayFollow, with_next}
 use Rattle.ph_facts.specs.Origins.{IsOrigin}
 use Rattle.ph_facts.specs.Sound.{IsSound, KeepLaws}
-use Rattle.ph_facts.specs.Tallies.{SaysSum}
-use Rattle.ph_facts.proofs.AmountLemmas.{captured_sum, moved_named, moved_sum, refunded_sum}
+use Rattle.ph_facts.proofs.AmountLemmas.{captured_sum, moved_named, moved_sum, refunded_sum, transferred_sum}
 use Rattle.ph_facts.proofs.EnterLemmas.{told_with}
 use Rattle.ph_facts.proofs.FollowLemmas.{MayStand, first_follows, follow_both, further_follows}
 use Rattle.ph_facts.proofs.HeldLemmas.{held_beside}
-use Rattle.ph_facts.proofs.LawLemmas.{SaysSums, laws_of_both, touches_charge}
+use Rattle.ph_facts.proofs.LawLemmas.{ChargesSpoken, laws_spoken}
 use Rattle.ph_facts.proofs.OrderLemmas.{amounts_stand, order_with, order_with_all, origin_stands, origins_stand, texts_stand}
-use Rattle.ph_facts.proofs.PresentLemmas.{IsCharge, charge_found}
+use Rattle.ph_facts.proofs.PresentLemmas.{IsCharge, charge_found, charge_says}
 use Rattle.ph_facts.proofs.SoundLemmas.{sound_with_all}
-use Rattle.ph_facts.proofs.TallyLemmas.{sum_known, sum_later, touches}
+use Rattle.ph_facts.proofs.SpokenLemmas.{Spoken, spoken_adding, spoken_among, spoken_none, spoken_version}
+use Rattle.ph_facts.proofs.TallyLemmas.{sum_later}
 use Rattle.ph_disputes.specs.Due.{due_charge, open_due_of, opening_due}
 use Rattle.ph_disputes.specs.Laws.{OpeningKeepsSound}
 use Rattle.ph_disputes.specs.Opening.{disputed_charge, new_dispute, open_of, opening_in, opening_of, opening_rows, taken_txn, with_dispute, with_taken}
@@ -138,7 +138,7 @@ module _ (state : ViewState) (batch : BatchState) (row : Row) (charge : Charge) 
       let fits : IsWithin charge = amounts_stand state row (item.Charge charge) order found.stands found.is in
       record {
         texts = texts_stand state row (item.Charge charge) order found.stands found.is;
-        within = record { captured = fits.captured; refunded = fits.refunded };
+        within = record { captured = fits.captured; refunded = fits.refunded; transferred = fits.transferred };
         origins = origins_stand third row (item.Charge charge) order_third stands found.is;
         silent = λ event is. absurd (cc);
       }
@@ -156,25 +156,18 @@ module _ (state : ViewState) (batch : BatchState) (row : Row) (charge : Charge) 
   pub opening_follows : AllMayFollow state opening
   opening_follows = (opened_follows, (txn_follows, (kept_follows, tt)))
 
-  latest_kept : latest_of row.object (state.rows ++ opening) ≡ Some kept
-  latest_kept = latest_of-behind state.rows (opened ∷ txn ∷ []) kept
-
-  pub opening_sums : SaysSums row.object (state.rows ++ opening)
-  opening_sums =
-      let was_captured : pos charge.amount_captured ≡ captured_of row.object state.rows =
-      sound.laws.captured row.object row (pos charge.amount_captured) found.latest (ap captured.said found.is) in
-      let was_refunded : charge.amount_refunded ≡ refunded_of row.object state.rows =
-      sound.laws.refunded row.object row charge.amount_refunded found.latest (ap refunded.said found.is) in
+  -- the charge says its amounts still
+  opening_charges : ChargesSpoken state.rows opening
+  opening_charges =
+      let says = charge_says state.rows row charge sound.laws found in
       record {
-        captured = sum_known captured row.object state.rows opening kept (pos charge.amount_captured) captured_sum latest_kept refl
-            (let right : pos charge.amount_captured ≡ captured_of row.object state.rows +ℤ (pos 0 +ℤ (pos 0 +ℤ (pos 0 +ℤ pos 0))) =
-            omega (arith, ints) in right);
-        refunded = sum_known refunded row.object state.rows opening kept charge.amount_refunded refunded_sum latest_kept refl
-            (let right : charge.amount_refunded ≡ refunded_of row.object state.rows + (0 + (0 + (0 + 0))) = omega arith in right);
+        captured = spoken_among captured state.rows opening captured_sum
+            (spoken_version captured state.rows kept (pos charge.amount_captured) captured_sum refl refl says.captured);
+        refunded = spoken_among refunded state.rows opening refunded_sum
+            (spoken_version refunded state.rows kept charge.amount_refunded refunded_sum refl refl says.refunded);
+        transferred = spoken_among transferred state.rows opening transferred_sum
+            (spoken_version transferred state.rows kept charge.amount_transferred transferred_sum refl refl says.transferred);
       }
-
-  opening_of_charge : (other : ℕ) → (other ≡ row.object → ⊥) → list_any (touches_charge other) opening ≡ false
-  opening_of_charge other differs = ap (λ (b : Bool). (b || b) || false) (ne_eqb row.object other (λ same. differs (sym same)))
 
   row_within : row.object ≤ length state.rows
   row_within =
@@ -221,24 +214,22 @@ module _ (state : ViewState) (batch : BatchState) (row : Row) (charge : Charge) 
   nothing_before : moves_of number state.rows ≡ []
   nothing_before = sum_later moved state number moved_sum moved_named order (omega arith)
 
-  moved_now : moves_of number opening ≡ taken_move charge.amount_captured ∷ []
-  moved_now =
-      ap (λ (b : Bool). cond b (record { amount = neg_ℤ (pos charge.amount_captured); fee = pos dispute_fee } ∷ []) [] ++ [])
-      (eq-eqb number number refl)
-      ∙ ap (λ (move : Move). move ∷ []) (sym (taken_is charge.amount_captured))
-
-  pub opening_moves : SaysSum moved number (state.rows ++ opening)
+  -- the dispute says what its transaction moves
+  opening_moves : Spoken moved state.rows opening
   opening_moves =
-      sum_known moved number state.rows opening opened (taken_move charge.amount_captured ∷ []) moved_sum
-      (latest_of-front state.rows (txn ∷ kept ∷ []) opened no_version) refl
-      (sym (ap (λ front. front ++ moves_of number opening) nothing_before ∙ moved_now))
-
-  opening_of_dispute : (other : ℕ) → (other ≡ number → ⊥) → list_any (touches moved other) opening ≡ false
-  opening_of_dispute other differs = ap (λ (b : Bool). b || ((b || false) || false)) (ne_eqb number other (λ same. differs (sym same)))
+      spoken_among moved state.rows opening moved_sum
+      (spoken_adding moved state.rows opened txn (taken_move charge.amount_captured ∷ []) (taken_move charge.amount_captured ∷ []) moved_sum refl refl
+      (ap (λ (move : Move). Some (record { object = number; amount = move ∷ [] })) (sym (taken_is charge.amount_captured))) refl
+      (ap (λ front. front ++ taken_move charge.amount_captured ∷ []) (sym nothing_before)))
 
   pub opening_laws : KeepLaws (state.rows ++ opening)
   opening_laws =
-      laws_of_both state.rows opening row.object number sound.laws opening_sums opening_of_charge opening_moves opening_of_dispute opening_held
+      laws_spoken state.rows opening sound.laws (record {
+        charges = opening_charges;
+        reversed = spoken_none reversed state.rows opening refl;
+        given_back = spoken_none given_back state.rows opening refl;
+        moved = opening_moves;
+      }) opening_held
 
   pub opening_latest : (rows : List Row) → latest_of number (rows ++ opening) ≡ Some opened
   opening_latest rows =
