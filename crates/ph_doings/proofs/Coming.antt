@@ -38,7 +38,9 @@ status_same past state object order shown = at (status_of past object) refl
     other row (item.Refund x) latest is none = ap (option_and_then status_by) latest ∙ rw is refl
     other row (item.Dispute x) latest is none = ap (option_and_then status_by) latest ∙ rw is refl
     other row (item.Transfer transfer) latest is none = ap (option_and_then status_by) latest ∙ rw is refl
+    other row (item.Reversal reversal) latest is none = ap (option_and_then status_by) latest ∙ rw is refl
     other row (item.Fee fee) latest is none = ap (option_and_then status_by) latest ∙ rw is refl
+    other row (item.FeeRefund fee_refund) latest is none = ap (option_and_then status_by) latest ∙ rw is refl
     other row (item.Txn x) latest is none = ap (option_and_then status_by) latest ∙ rw is refl
     other row (item.Event x) latest is none = ap (option_and_then status_by) latest ∙ rw is refl
 

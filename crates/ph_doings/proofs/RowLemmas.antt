@@ -108,7 +108,9 @@ status_apart object number old (item.Charge x) apart = refl
 status_apart object number old (item.Refund x) apart = refl
 status_apart object number old (item.Dispute x) apart = refl
 status_apart object number old (item.Transfer transfer) apart = refl
+status_apart object number old (item.Reversal reversal) apart = refl
 status_apart object number old (item.Fee fee) apart = refl
+status_apart object number old (item.FeeRefund fee_refund) apart = refl
 status_apart object number old (item.Txn x) apart = refl
 status_apart object number old (item.Event x) apart = refl
 
@@ -147,7 +149,9 @@ version_apart object number old (item.Charge x) apart = refl
 version_apart object number old (item.Refund x) apart = refl
 version_apart object number old (item.Dispute x) apart = refl
 version_apart object number old (item.Transfer transfer) apart = refl
+version_apart object number old (item.Reversal reversal) apart = refl
 version_apart object number old (item.Fee fee) apart = refl
+version_apart object number old (item.FeeRefund fee_refund) apart = refl
 version_apart object number old (item.Txn x) apart = refl
 version_apart object number old (item.Event x) apart = refl
 
@@ -279,7 +283,9 @@ status_changes number object old (item.Charge x) = inl refl
 status_changes number object old (item.Refund x) = inl refl
 status_changes number object old (item.Dispute x) = inl refl
 status_changes number object old (item.Transfer transfer) = inl refl
+status_changes number object old (item.Reversal reversal) = inl refl
 status_changes number object old (item.Fee fee) = inl refl
+status_changes number object old (item.FeeRefund fee_refund) = inl refl
 status_changes number object old (item.Txn x) = inl refl
 status_changes number object old (item.Event x) = inl refl
 
@@ -296,7 +302,9 @@ version_changes number object old (item.Charge x) = inl refl
 version_changes number object old (item.Refund x) = inl refl
 version_changes number object old (item.Dispute x) = inl refl
 version_changes number object old (item.Transfer transfer) = inl refl
+version_changes number object old (item.Reversal reversal) = inl refl
 version_changes number object old (item.Fee fee) = inl refl
+version_changes number object old (item.FeeRefund fee_refund) = inl refl
 version_changes number object old (item.Txn x) = inl refl
 version_changes number object old (item.Event x) = inl refl
 
@@ -337,7 +345,9 @@ intent_of_kind (item.Charge x) h = absurd (charge_kinds x.sort kind.Intent (λ i
 intent_of_kind (item.Refund x) h = absurd (cc)
 intent_of_kind (item.Dispute x) h = absurd (cc)
 intent_of_kind (item.Transfer transfer) h = absurd (cc)
+intent_of_kind (item.Reversal reversal) h = absurd (cc)
 intent_of_kind (item.Fee fee) h = absurd (cc)
+intent_of_kind (item.FeeRefund fee_refund) h = absurd (cc)
 intent_of_kind (item.Txn x) h = absurd (cc)
 intent_of_kind (item.Event x) h = absurd (cc)
 
@@ -349,7 +359,9 @@ attempt_of_kind (item.Charge x) h = absurd (charge_kinds x.sort kind.Attempt (λ
 attempt_of_kind (item.Refund x) h = absurd (cc)
 attempt_of_kind (item.Dispute x) h = absurd (cc)
 attempt_of_kind (item.Transfer transfer) h = absurd (cc)
+attempt_of_kind (item.Reversal reversal) h = absurd (cc)
 attempt_of_kind (item.Fee fee) h = absurd (cc)
+attempt_of_kind (item.FeeRefund fee_refund) h = absurd (cc)
 attempt_of_kind (item.Txn x) h = absurd (cc)
 attempt_of_kind (item.Event x) h = absurd (cc)
 
