@@ -38,6 +38,10 @@ use Rattle.ph_intents.specs.Create.{create_confirmed_outcome, create_outcome}
 use Rattle.ph_intents.proofs.CaptureLemmas.{capture_keeps}
 use Rattle.ph_intents.proofs.KeepsLemmas.{create_keeps, create_confirmed_keeps, update_keeps, confirm_keeps, authenticate_keeps, fail_authentication_keeps, cancel_keeps}
 use Rattle.ph_refunds.proofs.LawLemmas.{refund_keeps}
+use Rattle.ph_transfers.specs.Create.{transfer_outcome}
+use Rattle.ph_transfers.specs.RefundFee.{refund_fee_outcome}
+use Rattle.ph_transfers.specs.Reverse.{reverse_outcome}
+use Rattle.ph_transfers.proofs.LawLemmas.{refund_fee_keeps, reverse_keeps, transfer_keeps}
 use Rattle.ph_disputes.proofs.AnswerLemmas.{close_keeps, evidence_keeps}
 use Rattle.ph_disputes.proofs.OpeningLemmas.{open_due_keeps}
 use Rattle.ph_accounts.specs.Create as accounts
@@ -105,7 +109,12 @@ carried_keeps state entry account (call.ConfirmIntent c) ready fit = kept_few st
 carried_keeps state entry account (call.CaptureIntent c) ready fit =
     opened_keeps state 13 (capture_outcome state.rows account c (batch_after state entry)) ready (omega arith) (capture_keeps state entry account c ready refl)
 carried_keeps state entry account (call.CancelIntent c) ready fit = kept_few state 2 most_rows (cancel_outcome state.rows account c (batch_after state entry)) (cancel_keeps state entry account c ready refl) (omega arith)
-carried_keeps state entry account (call.CreateRefund c) ready fit = kept_few state 4 most_rows (refund_outcome state.rows account c (batch_after state entry)) (refund_keeps state entry account c ready fit.texts) (omega arith)
+carried_keeps state entry account (call.CreateRefund c) ready fit = kept_few state 11 most_rows (refund_outcome state.rows account c (batch_after state entry)) (refund_keeps state entry account c ready fit.texts) (omega arith)
+carried_keeps state entry account (call.CreateTransfer c) ready fit =
+    kept_few state 6 most_rows (transfer_outcome state.time state.rows account c (batch_after state entry))
+    (transfer_keeps state.time state entry account c ready fit.texts) (omega arith)
+carried_keeps state entry account (call.ReverseTransfer c) ready fit = kept_few state 5 most_rows (reverse_outcome state.rows account c (batch_after state entry)) (reverse_keeps state entry account c ready fit.texts) (omega arith)
+carried_keeps state entry account (call.RefundFee c) ready fit = kept_few state 5 most_rows (refund_fee_outcome state.rows account c (batch_after state entry)) (refund_fee_keeps state entry account c ready fit.texts) (omega arith)
 carried_keeps state entry account (call.SendEvidence c) ready fit = kept_few state 3 most_rows (evidence_outcome state.rows account c (batch_after state entry)) (evidence_keeps state entry account c ready fit.texts) (omega arith)
 carried_keeps state entry account (call.CloseDispute c) ready fit = kept_few state 2 most_rows (close_outcome state.rows account c (batch_after state entry)) (close_keeps state entry account c ready refl) (omega arith)
 carried_keeps state entry account (call.CreateAccount c) ready fit = kept_few state 1 most_rows (accounts.create_outcome state.rows account c (batch_after state entry)) (new_accounts.create_keeps state entry account c ready fit.texts) (omega arith)

@@ -9,6 +9,7 @@ pub mod KeyLawLemmas
 pub mod InUseLemmas
 pub mod ServeLemmas
 pub mod RecordLemmas
+pub mod OwnLemmas
 pub mod SavingLemmas
 pub mod StartLemmas
 pub mod LawLemmas

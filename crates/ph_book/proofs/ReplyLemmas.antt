@@ -1,5 +1,5 @@
 -- What is said to entries: replies with their statuses.
-use Rattle.std.proofs.Common.{◌≡◌, ◌≢◌, ℕ, ◌+◌, ◌<◌, ◌^◌, ◌∷◌, Bool, true, false, not, ◌==◌, ◌&&◌, ◌||◌, nat_lt, List, [], length, Option, Some, None, refl, sym, ap, ◌∙◌, subst, codes, IsTrue}
+use Rattle.std.proofs.Common.{◌≡◌, ◌≢◌, ℕ, ◌+◌, ◌<◌, ◌^◌, ◌∷◌, Bool, true, false, not, ◌==◌, ◌&&◌, ◌||◌, List, [], length, Option, Some, None, refl, sym, ap, ◌∙◌, subst, codes, IsTrue}
 use Rattle.std.specs.List.{list_all}
 use Rattle.std.specs.Option.{option_or}
 use Rattle.std.proofs.lemmas.Bool.{cond-true, eq-eqb, eqb-true, false≢true}
@@ -9,7 +9,7 @@ use Rattle.ph_base.specs.declared.acquirer.Ruling.TheVariants as ruling
 use Rattle.ph_base.specs.declared.acquirer.Why.TheVariants as why
 use Rattle.ph_base.specs.declared.acquirer.Why.{Why}
 use Rattle.ph_attempts.specs.declared.flights.Flight.{Flight}
-use Rattle.ph_errors.specs.Table.{CardDeclined, ClockBackwards, KeyDiffers, KeyInUse, NoSuchObject, error_of}
+use Rattle.ph_errors.specs.Table.{CardDeclined, KeyDiffers, KeyInUse, NoSuchObject, error_of}
 use Rattle.ph_http.specs.Replies.{is_status}
 use Rattle.ph_http.specs.declared.message.Raw.{Raw}
 use Rattle.ph_http.specs.declared.message.Reply.{Reply}
@@ -30,11 +30,10 @@ use Rattle.ph_doings.proofs.RowLemmas.{rows_say_past}
 use Rattle.ph_book.specs.Answers.{HasStatus, IsNoPark, Says, is_ruled}
 use Rattle.ph_book.specs.declared.judged.Judged.{Judged}
 use Rattle.ph_book.specs.declared.judged.Judged.TheVariants.{Refused, Accepted}
-use Rattle.ph_book.specs.Calls.{Keys, Upshot, Rejects, Replays, Makes, Shows, Sets, by_found, called_at, carried, clock_set, is_fresh, key_asked, opens, request_upshot, resumed_by, resumed_from}
+use Rattle.ph_book.specs.Calls.{Keys, Upshot, Rejects, Replays, Makes, Shows, Sets, by_found, called_at, carried, is_fresh, key_asked, opens, request_upshot, resumed_by, resumed_from}
 use Rattle.ph_book.specs.Called.{ServesFound}
 use Rattle.ph_book.specs.Keys.{asked_in, request_of}
 use Rattle.ph_calls.specs.declared.call.Call.{Call}
-use Rattle.ph_calls.specs.declared.call.Call.TheVariants as call
 use Rattle.ph_doings.specs.Records.{Found}
 use Rattle.ph_doings.specs.Records as found
 use Rattle.ph_idem.specs.declared.asked.Asked.{Asked}
@@ -59,7 +58,8 @@ use Rattle.ph_book.specs.Replies.{Said, Replies, Waits, Silence, declined_reply,
 use Rattle.ph_book.specs.declared.acts.Answer.{Answer}
 use Rattle.ph_book.specs.declared.acts.Answer.TheVariants as answer
 use Rattle.ph_book.proofs.CallLemmas.{KeepsCall, KeepsJudged, carried_keeps, judged_keeps}
-use Rattle.ph_book.proofs.ErrorLemmas.{answered, chosen, is_served, refusal_answered}
+use Rattle.ph_book.proofs.ErrorLemmas.{answered, is_served, refusal_answered}
+use Rattle.ph_book.proofs.OwnLemmas.{IsOwn, carried_own}
 
 abbrev pub IsServed : Reply → Type 0
 IsServed reply = is_served reply.status ≡ true
@@ -84,24 +84,16 @@ AnswersSaved (Makes outcome) = Unit {0}
 AnswersSaved (Shows doc) = Unit {0}
 AnswersSaved (Sets moment) = Unit {0}
 
--- no call gives a saved reply by itself
-clock_saved : (now moment : ℕ) → AnswersSaved (clock_set now moment)
-clock_saved now moment = chosen AnswersSaved (nat_lt moment now) (Makes (Refuses (error_of ClockBackwards))) (Sets moment) tt tt
+-- what a call comes to by itself gives no saved reply
+own_saved : (upshot : Upshot) → IsOwn upshot → AnswersSaved upshot
+own_saved (Rejects error) own = tt
+own_saved (Replays reply) own = absurd own
+own_saved (Makes outcome) own = tt
+own_saved (Shows doc) own = tt
+own_saved (Sets moment) own = tt
 
 carried_saved : (rows : List Row) (account now : ℕ) (c : Call) (batch : BatchState) → AnswersSaved (carried rows account now c batch)
-carried_saved rows account now (call.CreateIntent c) batch = tt
-carried_saved rows account now (call.UpdateIntent c) batch = tt
-carried_saved rows account now (call.ConfirmIntent c) batch = tt
-carried_saved rows account now (call.CaptureIntent c) batch = tt
-carried_saved rows account now (call.CancelIntent c) batch = tt
-carried_saved rows account now (call.CreateRefund c) batch = tt
-carried_saved rows account now (call.SendEvidence c) batch = tt
-carried_saved rows account now (call.CloseDispute c) batch = tt
-carried_saved rows account now (call.GetBalance c) batch = tt
-carried_saved rows account now (call.CreateAccount c) batch = tt
-carried_saved rows account now (call.Retrieve c) batch = tt
-carried_saved rows account now (call.SetClock c) batch = clock_saved now c.now
-carried_saved rows account now (call.Authenticate c) batch = tt
+carried_saved rows account now c batch = own_saved (carried rows account now c batch) (carried_own rows account now c batch)
 
 shown_served : (now : ℕ) (rows : List Row) (object : ℕ) (batch : BatchState) (order : Option Order)
     → IsServedOrWaits (shown_or_waits now rows object batch order)

@@ -1,5 +1,5 @@
 -- The records of keys after each kind of entry, and what an entry saves.
-use Rattle.std.proofs.Common.{◌≡◌, ℕ, suc, ◌+◌, ◌^◌, ◌<◌, ◌==◌, ◌&&◌, ◌++◌, ◌∷◌, nat_lt, Bool, true, false, if◌then◌else◌, List, [], length, map, Option, Some, None, is_some, refl, sym, ap, ◌∙◌, arith}
+use Rattle.std.proofs.Common.{◌≡◌, ℕ, suc, ◌+◌, ◌^◌, ◌<◌, ◌==◌, ◌&&◌, ◌++◌, ◌∷◌, Bool, true, false, if◌then◌else◌, List, [], length, map, Option, Some, None, is_some, refl, sym, ap, ◌∙◌, arith}
 use Rattle.std.specs.List.{find, list_all}
 use Rattle.std.proofs.lemmas.Bool.Decides.{nat_tests}
 use Rattle.std.proofs.lemmas.List.Sums.{fold-append}
@@ -8,13 +8,10 @@ use Rattle.ph_attempts.specs.Attempts as step
 use Rattle.ph_attempts.specs.declared.flights.Flight.{Flight}
 use Rattle.ph_base.specs.declared.acquirer.Ruling.{Ruling}
 use Rattle.ph_calls.specs.declared.call.Call.{Call}
-use Rattle.ph_calls.specs.declared.call.Call.TheVariants as call
 use Rattle.ph_doings.specs.Doings.{Doing, Leaves, Puts, Edits, Begins, Resumes, Parks, Settles}
 use Rattle.ph_doings.specs.Kept.{step_of}
 use Rattle.ph_doings.specs.Records.{Found, Turn, is_over, last_opened, time_of}
 use Rattle.ph_doings.specs.Records as found
-use Rattle.ph_errors.specs.Table.{ClockBackwards, error_of}
-use Rattle.ph_facts.specs.Outcomes.{Refuses}
 use Rattle.ph_http.specs.declared.message.Raw.{Raw}
 use Rattle.ph_http.specs.declared.message.Reply.{Reply}
 use Rattle.ph_idem.specs.declared.asked.Asked.{Asked}
@@ -48,7 +45,7 @@ use Rattle.ph_book.specs.State.{is_saved_well, is_status_well, records_of}
 use Rattle.ph_book.proofs.HistoryLemmas.{length_past}
 use Rattle.ph_book.proofs.KeyLawLemmas.{legal_turned, said_count, turn_count, turn_time}
 use Rattle.ph_book.proofs.RecordLemmas.{records_more}
-use Rattle.ph_book.proofs.ErrorLemmas.{chosen}
+use Rattle.ph_book.proofs.OwnLemmas.{IsOwn, carried_own}
 use Rattle.ph_book.proofs.WaitLemmas.{fresh_over, key_found, over_fresh}
 
 -- ---- doings that settle nothing
@@ -107,30 +104,6 @@ opening_is setup past None = refl
 opening_is setup past (Some asked) =
     ap (λ fresh. opened_if fresh (Some asked) (suc (length (turns_after setup past))) (time_of setup.opened (turns_after setup past)))
     (sym (fresh_is (turns_after setup past) asked setup.opened))
-
--- a call comes to this by itself: it is not refused before, and no reply is given once more
-abbrev pub IsOwn : Upshot → Type 0
-IsOwn (Rejects error) = ⊥
-IsOwn (Replays saved) = ⊥
-IsOwn (Makes outcome) = Unit {0}
-IsOwn (Shows doc) = Unit {0}
-IsOwn (Sets moment) = Unit {0}
-
--- what a call comes to by itself
-carried_own : (rows : List Row) (account now : ℕ) (c : Call) (batch : BatchState) → IsOwn (carried rows account now c batch)
-carried_own rows account now (call.CreateIntent c) batch = tt
-carried_own rows account now (call.UpdateIntent c) batch = tt
-carried_own rows account now (call.ConfirmIntent c) batch = tt
-carried_own rows account now (call.CaptureIntent c) batch = tt
-carried_own rows account now (call.CancelIntent c) batch = tt
-carried_own rows account now (call.CreateRefund c) batch = tt
-carried_own rows account now (call.SendEvidence c) batch = tt
-carried_own rows account now (call.CloseDispute c) batch = tt
-carried_own rows account now (call.GetBalance c) batch = tt
-carried_own rows account now (call.CreateAccount c) batch = tt
-carried_own rows account now (call.Retrieve c) batch = tt
-carried_own rows account now (call.SetClock c) batch = chosen IsOwn (nat_lt c.now now) (Makes (Refuses (error_of ClockBackwards))) (Sets c.now) tt tt
-carried_own rows account now (call.Authenticate c) batch = tt
 
 -- a call saves its reply exactly where it opens a record
 own_saves : (key : Option (List ℕ)) (opens_ : Bool) (rows : List Row) (now place caller : ℕ) (upshot : Upshot) → IsOwn upshot

@@ -40,6 +40,9 @@ use Rattle.ph_intents.specs.Confirm.{confirm_outcome}
 use Rattle.ph_intents.specs.Create.{create_outcome, create_confirmed_outcome}
 use Rattle.ph_intents.specs.Update.{update_outcome}
 use Rattle.ph_refunds.specs.Refunds.{refund_outcome}
+use Rattle.ph_transfers.specs.Create.{transfer_outcome}
+use Rattle.ph_transfers.specs.RefundFee.{refund_fee_outcome}
+use Rattle.ph_transfers.specs.Reverse.{reverse_outcome}
 use Rattle.ph_disputes.specs.Answers.{evidence_outcome}
 use Rattle.ph_disputes.specs.Closing.{close_outcome}
 use Rattle.ph_disputes.specs.Due.{open_due_of}
@@ -95,6 +98,9 @@ carried rows account now (call.ConfirmIntent c) batch = Makes (confirm_outcome r
 carried rows account now (call.CaptureIntent c) batch = Makes (and_opened rows (capture_outcome rows account c batch))
 carried rows account now (call.CancelIntent c) batch = Makes (cancel_outcome rows account c batch)
 carried rows account now (call.CreateRefund c) batch = Makes (refund_outcome rows account c batch)
+carried rows account now (call.CreateTransfer c) batch = Makes (transfer_outcome now rows account c batch)
+carried rows account now (call.ReverseTransfer c) batch = Makes (reverse_outcome rows account c batch)
+carried rows account now (call.RefundFee c) batch = Makes (refund_fee_outcome rows account c batch)
 carried rows account now (call.SendEvidence c) batch = Makes (evidence_outcome rows account c batch)
 carried rows account now (call.CloseDispute c) batch = Makes (close_outcome rows account c batch)
 carried rows account now (call.CreateAccount c) batch = Makes (accounts.create_outcome rows account c batch)

@@ -20,14 +20,16 @@ use Rattle.ph_items.specs.declared.charges.ChargeSort.TheVariants as charge_sort
 use Rattle.ph_items.specs.declared.disputes.Dispute.{Dispute}
 use Rattle.ph_items.specs.declared.disputes.DisputeStatus.{DisputeStatus}
 use Rattle.ph_items.specs.declared.disputes.DisputeStatus.TheVariants as dispute_status
+use Rattle.ph_items.specs.declared.fees.Fee.{Fee}
 use Rattle.ph_items.specs.declared.intents.Intent.{Intent}
 use Rattle.ph_items.specs.declared.intents.IntentStatus.TheVariants as status
 use Rattle.ph_items.specs.declared.items.Item.TheVariants as item
+use Rattle.ph_items.specs.declared.transfers.Transfer.{Transfer}
 use Rattle.ph_rows.specs.Balances.{available_of, movements_of, net_of, pending_of}
 use Rattle.ph_items.specs.Kinds.{kind_of}
 use Rattle.ph_rows.specs.Rows.{latest_of, row_at}
 use Rattle.ph_facts.specs.Held.{charge_of}
-use Rattle.ph_facts.specs.Amounts.{Move, captured_of, moves_in, moves_of, refunded_of}
+use Rattle.ph_facts.specs.Amounts.{Move, captured_of, given_back_of, moves_in, moves_of, refunded_of, reversed_of, transferred_of}
 use Rattle.ph_views.specs.Values.{printed_id}
 use Rattle.ph_book.specs.declared.acts.Deed.{Deed}
 use Rattle.ph_book.specs.declared.acts.Deed.TheVariants as deed
@@ -68,7 +70,7 @@ taken_in dispute_status.UnderReview amount = pos amount
 taken_in dispute_status.Won amount = pos 0
 taken_in dispute_status.Lost amount = pos amount
 
--- the amounts that the present versions of charges, payment intents and disputes say are sums over the rows
+-- the amounts that the present versions of charges, transfers, application fees, payment intents and disputes say are sums over the rows
 pub record AmountsAreSums (rows : List Row) : Type 0 where
   -- what was captured is the sum of its transactions of type charge, or of type payment
   pub captured : (object : ℕ) (row : Row) (charge : Charge) → latest_of object rows ≡ Some row → row.item ≡ item.Charge charge
@@ -76,6 +78,15 @@ pub record AmountsAreSums (rows : List Row) : Type 0 where
   -- what was refunded is the sum of its refunds
   pub refunded : (object : ℕ) (row : Row) (charge : Charge) → latest_of object rows ≡ Some row → row.item ≡ item.Charge charge
       → charge.amount_refunded ≡ refunded_of object rows
+  -- what was transferred of a charge is the sum of the transfers that are drawn on it
+  pub transferred : (object : ℕ) (row : Row) (charge : Charge) → latest_of object rows ≡ Some row → row.item ≡ item.Charge charge
+      → charge.amount_transferred ≡ transferred_of object rows
+  -- what was reversed of a transfer is the sum of its reversals
+  pub reversed : (object : ℕ) (row : Row) (transfer : Transfer) → latest_of object rows ≡ Some row → row.item ≡ item.Transfer transfer
+      → transfer.amount_reversed ≡ reversed_of object rows
+  -- what was given back of an application fee is the sum of its refunds
+  pub given_back : (object : ℕ) (row : Row) (fee : Fee) → latest_of object rows ≡ Some row → row.item ≡ item.Fee fee
+      → fee.amount_refunded ≡ given_back_of object rows
   -- what can be captured of a payment intent that waits for its capture is what is left of what was authorised of its charge
   pub capturable : (object : ℕ) (row : Row) (intent : Intent) → latest_of object rows ≡ Some row → row.item ≡ item.Intent intent
       → intent.status ≡ status.RequiresCapture → IsLeftOf object rows intent
@@ -87,6 +98,21 @@ pub record AmountsAreSums (rows : List Row) : Type 0 where
 abbrev pub RefundsFit : List Row → Type 0
 RefundsFit rows = (object : ℕ) (row : Row) (charge : Charge) → latest_of object rows ≡ Some row → row.item ≡ item.Charge charge
     → pos (refunded_of object rows) ≤ℤ captured_of object rows
+
+-- the transfers that are drawn on a charge add up to no more than what was captured of it
+abbrev pub TransfersFit : List Row → Type 0
+TransfersFit rows = (object : ℕ) (row : Row) (charge : Charge) → latest_of object rows ≡ Some row → row.item ≡ item.Charge charge
+    → pos (transferred_of object rows) ≤ℤ captured_of object rows
+
+-- the reversals of a transfer add up to no more than its amount
+abbrev pub ReversalsFit : List Row → Type 0
+ReversalsFit rows = (object : ℕ) (row : Row) (transfer : Transfer) → latest_of object rows ≡ Some row → row.item ≡ item.Transfer transfer
+    → reversed_of object rows ≤ transfer.amount
+
+-- the refunds of an application fee add up to no more than the fee
+abbrev pub FeeRefundsFit : List Row → Type 0
+FeeRefundsFit rows = (object : ℕ) (row : Row) (fee : Fee) → latest_of object rows ≡ Some row → row.item ≡ item.Fee fee
+    → given_back_of object rows ≤ fee.amount
 
 -- the transactions of a dispute are one that takes its amount and the fee, and one that gives the amount back exactly where it is won
 abbrev pub DisputesMoveOnce : List Row → Type 0

@@ -33,6 +33,7 @@ use ph_json::Doc;
 use ph_kinds::Authentication;
 use ph_refunds::refund;
 use ph_rows::{Batch, Row, View, owned_named};
+use ph_transfers::{refund_fee, reverse};
 use ph_views::{balance_doc, clock_doc};
 use std::alloc::Global;
 
@@ -230,6 +231,11 @@ fn carry(
         Call::CaptureIntent(call) => added(take(alloc, store, account, call, batch)),
         Call::CancelIntent(call) => added(cancel(alloc, store, account, call, batch)),
         Call::CreateRefund(call) => added(refund(alloc, store, account, call, batch)),
+        Call::CreateTransfer(call) => {
+            added(ph_transfers::create(alloc, store, account, call, batch))
+        }
+        Call::ReverseTransfer(call) => added(reverse(alloc, store, account, call, batch)),
+        Call::RefundFee(call) => added(refund_fee(alloc, store, account, call, batch)),
         Call::SendEvidence(call) => added(evidence(alloc, store, account, call, batch)),
         Call::CloseDispute(call) => added(close(alloc, store, account, call, batch)),
         Call::CreateAccount(call) => {

@@ -2,7 +2,7 @@
 ghost use Rattle.ph_doings.specs.Laws.{HasOneUnsettled};
 ghost use Rattle.ph_book.specs.History.{doings_of, rows_of};
 ghost use Rattle.ph_book.specs.Legal.{IsLegal};
-ghost use Rattle.ph_book.specs.Laws.{AmountsAreSums, BalancesAreSums, DisputesMoveOnce, HaveDifferentIds, HaveDifferentReferences, RefundsFit, RunsAreShown, RunsFollow, WereChallenged};
+ghost use Rattle.ph_book.specs.Laws.{AmountsAreSums, BalancesAreSums, DisputesMoveOnce, FeeRefundsFit, HaveDifferentIds, HaveDifferentReferences, RefundsFit, ReversalsFit, RunsAreShown, RunsFollow, TransfersFit, WereChallenged};
 
 use crate::acts::Entry;
 use crate::book::Book;
@@ -30,8 +30,9 @@ pub fn balances_are_sums(_setup: &Setup, _history: &[Entry])
 {}
 
 /// What was captured of a charge is the sum of its transactions of type charge or payment, what was refunded the sum of its
-/// refunds, what can be captured of a payment intent is what is left of what was authorised of its charge,
-/// and what a dispute has taken is what its transactions take.
+/// refunds, and what was transferred that of the transfers drawn on it; what was reversed of a transfer and given back of an
+/// application fee are the sums of their reversals and refunds; what can be captured of a payment intent is what is left of
+/// what was authorised of its charge, and what a dispute has taken is what its transactions take.
 pub fn amounts_are_sums(setup: &Setup, _history: &[Entry])
     requires { IsLegal setup.now _history.now }
     ensures { AmountsAreSums (rows_of setup.now _history.now) }
@@ -43,6 +44,30 @@ pub fn amounts_are_sums(setup: &Setup, _history: &[Entry])
 pub fn refunds_fit(setup: &Setup, _history: &[Entry])
     requires { IsLegal setup.now _history.now }
     ensures { RefundsFit (rows_of setup.now _history.now) }
+{
+    few_entries(setup.entries);
+}
+
+/// The transfers drawn on a charge never add up to more than what was captured of it.
+pub fn transfers_fit(setup: &Setup, _history: &[Entry])
+    requires { IsLegal setup.now _history.now }
+    ensures { TransfersFit (rows_of setup.now _history.now) }
+{
+    few_entries(setup.entries);
+}
+
+/// The reversals of a transfer never add up to more than its amount.
+pub fn reversals_fit(setup: &Setup, _history: &[Entry])
+    requires { IsLegal setup.now _history.now }
+    ensures { ReversalsFit (rows_of setup.now _history.now) }
+{
+    few_entries(setup.entries);
+}
+
+/// The refunds of an application fee never add up to more than the fee.
+pub fn fee_refunds_fit(setup: &Setup, _history: &[Entry])
+    requires { IsLegal setup.now _history.now }
+    ensures { FeeRefundsFit (rows_of setup.now _history.now) }
 {
     few_entries(setup.entries);
 }
