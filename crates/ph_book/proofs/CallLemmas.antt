@@ -109,7 +109,7 @@ carried_keeps state entry account (call.ConfirmIntent c) ready fit = kept_few st
 carried_keeps state entry account (call.CaptureIntent c) ready fit =
     opened_keeps state 13 (capture_outcome state.rows account c (batch_after state entry)) ready (omega arith) (capture_keeps state entry account c ready refl)
 carried_keeps state entry account (call.CancelIntent c) ready fit = kept_few state 2 most_rows (cancel_outcome state.rows account c (batch_after state entry)) (cancel_keeps state entry account c ready refl) (omega arith)
-carried_keeps state entry account (call.CreateRefund c) ready fit = kept_few state 11 most_rows (refund_outcome state.rows account c (batch_after state entry)) (refund_keeps state entry account c ready fit.texts) (omega arith)
+carried_keeps state entry account (call.CreateRefund c) ready fit = kept_few state 14 most_rows (refund_outcome state.rows account c (batch_after state entry)) (refund_keeps state entry account c ready fit.texts) (omega arith)
 carried_keeps state entry account (call.CreateTransfer c) ready fit =
     kept_few state 6 most_rows (transfer_outcome state.time state.rows account c (batch_after state entry))
     (transfer_keeps state.time state entry account c ready fit.texts) (omega arith)
