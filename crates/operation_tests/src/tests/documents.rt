@@ -34,6 +34,15 @@ const EVENT_CONNECTED: &str =
 const EVENT_CHARGED: &str =
     "{\"created\":1700000100,\"data\":{\"object\":{\"amount\":1099,\"amount_captured\":1099,\"amount_refunded\":0,\"application_fee\":null,\"application_fee_amount\":null,\"balance_transaction\":\"txn_0000000000000008\",\"captured\":true,\"created\":1700000100,\"currency\":\"usd\",\"description\":\"Order 7\",\"disputed\":false,\"failure_code\":null,\"id\":\"ch_0000000000000007\",\"livemode\":false,\"metadata\":{\"order\":\"7\"},\"object\":\"charge\",\"paid\":true,\"payment_intent\":\"pi_0000000000000002\",\"payment_method\":\"pm_card_visa\",\"refunded\":false,\"source_transfer\":null,\"status\":\"succeeded\",\"transfer\":null,\"transfer_group\":null}},\"id\":\"evt_0000000000000010\",\"livemode\":false,\"object\":\"event\",\"pending_webhooks\":0,\"request\":{\"id\":null,\"idempotency_key\":null},\"type\":\"charge.succeeded\"}";
 
+const EVENT_TRANSFERRED: &str =
+    "{\"created\":1700000000,\"data\":{\"object\":{\"amount\":1000,\"amount_reversed\":0,\"balance_transaction\":\"txn_0000000000000013\",\"created\":1700000000,\"currency\":\"usd\",\"description\":\"Order 7\",\"destination\":\"acct_0000000000000002\",\"destination_payment\":\"py_0000000000000014\",\"id\":\"tr_0000000000000012\",\"livemode\":false,\"metadata\":{\"order\":\"7\"},\"object\":\"transfer\",\"reversed\":false,\"source_transaction\":null,\"transfer_group\":null}},\"id\":\"evt_0000000000000016\",\"livemode\":false,\"object\":\"event\",\"pending_webhooks\":0,\"request\":{\"id\":null,\"idempotency_key\":null},\"type\":\"transfer.created\"}";
+
+const EVENT_REVERSED: &str =
+    "{\"created\":1700000000,\"data\":{\"object\":{\"amount\":1000,\"amount_reversed\":400,\"balance_transaction\":\"txn_0000000000000013\",\"created\":1700000000,\"currency\":\"usd\",\"description\":\"Order 7\",\"destination\":\"acct_0000000000000002\",\"destination_payment\":\"py_0000000000000014\",\"id\":\"tr_0000000000000012\",\"livemode\":false,\"metadata\":{\"order\":\"7\"},\"object\":\"transfer\",\"reversed\":false,\"source_transaction\":null,\"transfer_group\":null}},\"id\":\"evt_0000000000000021\",\"livemode\":false,\"object\":\"event\",\"pending_webhooks\":0,\"request\":{\"id\":null,\"idempotency_key\":null},\"type\":\"transfer.reversed\"}";
+
+const EVENT_GIVEN_BACK: &str =
+    "{\"created\":1700000000,\"data\":{\"object\":{\"account\":\"acct_0000000000000002\",\"amount\":100,\"amount_refunded\":100,\"balance_transaction\":\"txn_0000000000000033\",\"charge\":\"ch_0000000000000026\",\"created\":1700000000,\"currency\":\"usd\",\"id\":\"fee_0000000000000032\",\"livemode\":false,\"object\":\"application_fee\",\"refunded\":true}},\"id\":\"evt_0000000000000043\",\"livemode\":false,\"object\":\"event\",\"pending_webhooks\":0,\"request\":{\"id\":null,\"idempotency_key\":null},\"type\":\"application_fee.refunded\"}";
+
 const BALANCE_NONE: &str =
     "{\"available\":[{\"amount\":0,\"currency\":\"usd\"}],\"livemode\":false,\"object\":\"balance\",\"pending\":[{\"amount\":0,\"currency\":\"usd\"}]}";
 
@@ -64,6 +73,29 @@ const PAID: Requests = &[
         b"/v1/payment_intents/pi_0000000000000002/confirm",
         b"payment_method=pm_card_visa",
     ),
+];
+
+// The platform transfers 1000 to the account 2 and takes 400 back, and gives back what it took of a charge for that
+// account.
+const CAME_BACK: Requests = &[
+    (b"/v1/accounts", b""),
+    (
+        b"/v1/payment_intents",
+        b"amount=2000&currency=usd&payment_method=pm_card_bypassPending&confirm=true",
+    ),
+    (
+        b"/v1/transfers",
+        b"amount=1000&currency=usd&destination=acct_0000000000000002&description=Order 7&metadata[order]=7",
+    ),
+    (
+        b"/v1/transfers/tr_0000000000000012/reversals",
+        b"amount=400",
+    ),
+    (
+        b"/v1/payment_intents",
+        b"amount=2000&currency=usd&payment_method=pm_card_visa&confirm=true&transfer_data[destination]=acct_0000000000000002&application_fee_amount=100",
+    ),
+    (b"/v1/application_fees/fee_0000000000000032/refunds", b""),
 ];
 
 fn request(alloc: Global, path: &[u8], body: &[u8]) -> Result<Raw, NoMemory> {
@@ -209,6 +241,17 @@ fn events_print_what_their_own_entry_left(rt: HostRuntime) {
         created,
         EVENT_CONNECTED,
     );
+}
+
+// The event of a transfer's creation prints it as it was created, though a part of it came back by now; the events of
+// what came back print what is left of it.
+#[test]
+fn events_of_what_came_back(rt: HostRuntime) {
+    let alloc = rt.alloc();
+    let book = entered(&rt, alloc, CAME_BACK);
+    prints(&rt, alloc, &book, 16, EVENT_TRANSFERRED);
+    prints(&rt, alloc, &book, 21, EVENT_REVERSED);
+    prints(&rt, alloc, &book, 43, EVENT_GIVEN_BACK);
 }
 
 // The event of a charge; an attempt has no document; another account has no transactions.
