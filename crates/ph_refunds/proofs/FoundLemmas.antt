@@ -36,16 +36,8 @@ latest_found state text row sound e = at (object_named state.rows kind.Intent te
     of_item : (paid : Row) → row_at paid.place state.rows ≡ Some paid → (content : Item) → paid.item ≡ content
         → option_and_then (λ n. latest_of n state.rows) (latest_charge_in content) ≡ Some row
         → (number : ℕ) × (latest_of number state.rows ≡ Some row) × (kind_of row.item ≡ kind.Charge)
-    of_item paid stands (item.Account account) is e = absurd (cc)
     of_item paid stands (item.Intent intent) is e = of_number paid intent stands is intent.latest_charge refl e
-    of_item paid stands (item.Attempt attempt) is e = absurd (cc)
-    of_item paid stands (item.Charge charge) is e = absurd (cc)
-    of_item paid stands (item.Refund refund) is e = absurd (cc)
-    of_item paid stands (item.Dispute dispute) is e = absurd (cc)
-    of_item paid stands (item.Transfer transfer) is e = absurd (cc)
-    of_item paid stands (item.Fee fee) is e = absurd (cc)
-    of_item paid stands (item.Txn txn) is e = absurd (cc)
-    of_item paid stands (item.Event event) is e = absurd (cc)
+    of_item paid stands other is e = absurd (cc)
 
     at : (found : Option Row) → object_named state.rows kind.Intent text ≡ found
         → option_and_then (latest_version_in state.rows) found ≡ Some row

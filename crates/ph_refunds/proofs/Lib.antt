@@ -1,3 +1,4 @@
+mod AskedLemmas
 mod EntryLemmas
 mod FoundLemmas
 pub mod LawLemmas
