@@ -2,6 +2,7 @@
 
 mod acquirers;
 mod connections;
+mod dialers;
 mod locks;
 mod ports;
 mod sinks;

@@ -1,5 +1,5 @@
 -- The states of the connections and the gates that this crate has.
-use Rattle.std.specs.Prelude.{ℕ, Bool, false, None}
+use Rattle.std.specs.Prelude.{ℕ, ◌+◌, nat_lt, Bool, false, None}
 use Rattle.ph_io.specs.Told.{SourceState, SinkState, BesideSource, BesideSink}
 use Rattle.ph_io.specs.Forms.{untold_source, untold_sink}
 use Rattle.ph_io.specs.Gates.{GateState}
@@ -13,6 +13,10 @@ pub record TcpDuplexState : Type 0 where
 -- a connection of which nothing was read and to which nothing was written
 abbrev pub unused : TcpDuplexState
 unused = record { ends = 0; read_faults = 0; write_faults = 0 }
+
+-- a read or a write of the connection failed
+abbrev pub has_failed : TcpDuplexState → Bool
+has_failed state = nat_lt 0 (state.read_faults + state.write_faults)
 
 -- no content is known of its source
 abbrev pub source_of : TcpDuplexState → SourceState

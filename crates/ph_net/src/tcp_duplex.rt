@@ -1,6 +1,6 @@
 //! A connection over TCP.
 ghost use Rattle.std.specs.Prelude.{◌≡◌, refl, None};
-ghost use Rattle.ph_net.specs.Forms.{TcpDuplexState, unused, source_of, sink_of, beside_source_of, beside_sink_of};
+ghost use Rattle.ph_net.specs.Forms.{TcpDuplexState, unused, source_of, sink_of, beside_source_of, beside_sink_of, has_failed};
 
 use ph_io::{Duplex, ReadFailed, Sink, Source, WriteFailed};
 use std::io::{Read, Write};
@@ -39,6 +39,13 @@ impl TcpDuplex {
             read_faults: 0,
             write_faults: 0,
         }
+    }
+
+    /// Whether a read or a write of it failed.
+    pub fn has_failed(&self) -> bool
+        ensures { result ≡ has_failed self.now }
+    {
+        self.read_faults > 0 || self.write_faults > 0
     }
 }
 

@@ -133,8 +133,8 @@ moved_asks world (move.Decide reference ruling) holds = inl refl
 moved_asks world (move.Clock now) holds = enter_asks world (tick_entry 0 now)
 moved_asks world (move.Resume caller) holds = enter_asks world (resume_entry caller)
 
-asks_of : (world : WorldState) → IsSound world → AsksOfLiveAttempts world
-asks_of world holds m = same_asks (is_possible m) (moved world m) world world (moved_asks world m holds) (inl refl)
+pub move_asks : (world : WorldState) → IsSound world → AsksOfLiveAttempts world
+move_asks world holds m = same_asks (is_possible m) (moved world m) world world (moved_asks world m holds) (inl refl)
 
 -- ---- decisions
 
@@ -234,7 +234,7 @@ moved_book world (move.Decide reference ruling) = inl refl
 moved_book world (move.Clock now) = enter_book world (tick_entry 0 now)
 moved_book world (move.Resume caller) = enter_book world (resume_entry caller)
 
-move_book : (world : WorldState) (m : Move) → BookStep world.book (after_move world m).book
+pub move_book : (world : WorldState) (m : Move) → BookStep world.book (after_move world m).book
 move_book world m = either_book (is_possible m) (moved world m) world world.book (moved_book world m) (inl refl)
 
 said_is : (said : Said) (reply : Reply) → reply_in said ≡ Some reply → said ≡ Replies reply
@@ -266,7 +266,7 @@ pub asks_are_orders : Everywhere AsksAreOrders
 asks_are_orders setup fit moves = (all_sound setup moves fit).well.asks
 
 pub asks_are_of_live_attempts : Everywhere AsksOfLiveAttempts
-asks_are_of_live_attempts setup fit moves = asks_of (after_moves (new_world setup) moves) (all_sound setup moves fit)
+asks_are_of_live_attempts setup fit moves = move_asks (after_moves (new_world setup) moves) (all_sound setup moves fit)
 
 pub rulings_are_decisions : Everywhere RulingsAreDecisions
 rulings_are_decisions setup fit moves = (all_sound setup moves fit).well.rulings

@@ -5,5 +5,6 @@ pub mod EntryLemmas
 pub mod WellLemmas
 pub mod MoveLemmas
 pub mod LawLemmas
+pub mod SettledLemmas
 pub mod CodeLemmas
 pub mod EndLemmas

@@ -1,6 +1,6 @@
 -- What holds after every list of moves.
 use Rattle.std.specs.Prelude.{◌≡◌, ℕ, ◌+◌, ◌<◌, ◌≤◌, ◌^◌, ◌==◌, ◌&&◌, ◌⊎◌, Bool, true, false, List, [], ◌∷◌, ◌++◌, length, Option, Some, None, count_by}
-use Rattle.std.specs.List.{list_any}
+use Rattle.std.specs.List.{filter, list_any}
 use Rattle.ph_base.specs.declared.acquirer.Ruling.{Ruling}
 use Rattle.ph_base.specs.declared.acquirer.Ruling.TheVariants as ruling
 use Rattle.ph_http.specs.declared.message.Reply.{Reply}
@@ -93,7 +93,24 @@ pub record AsksLive (old new : WorldState) : Type 0 where
 abbrev pub AsksOfLiveAttempts : WorldState → Type 0
 AsksOfLiveAttempts world = (move : Move) → ((after_move world move).asks ≡ world.asks) ⊎ AsksLive world (after_move world move)
 
+-- the asks of the attempt of a reference
+abbrev pub asks_of : ℕ → List Ask → List Ask
+asks_of reference asks = filter (λ ask. ask.order.reference == reference) asks
+
+-- an attempt that is settled is never asked of: whatever moves come, the asks of it are those that were made before
+abbrev pub NeverAskedWhenSettled : WorldState → Type 0
+NeverAskedWhenSettled world = (moves : List Move) (reference intent : ℕ) (order : Order) (given : Ruling)
+    → standing_of (doings_in world.book) reference ≡ Stands intent order (Settled given)
+    → asks_of reference (after_moves world moves).asks ≡ asks_of reference world.asks
+
 -- ---- rulings
+
+-- an attempt that is settled stays settled with its ruling, for the same payment intent and under the same order, whatever
+-- moves come
+abbrev pub SettledStays : WorldState → Type 0
+SettledStays world = (moves : List Move) (reference intent : ℕ) (order : Order) (given : Ruling)
+    → standing_of (doings_in world.book) reference ≡ Stands intent order (Settled given)
+    → standing_of (doings_in (after_moves world moves).book) reference ≡ Stands intent order (Settled given)
 
 -- each attempt that is settled is settled with its decision
 abbrev pub RulingsAreDecisions : WorldState → Type 0

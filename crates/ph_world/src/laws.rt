@@ -1,5 +1,5 @@
 //! What holds after every list of moves from a new world, each the contract of a function that does nothing.
-ghost use Rattle.ph_world.specs.Laws.{AsksAreOrders, AsksOfLiveAttempts, AuthorisedOnce, DecisionsStay, Everywhere, IsLegalWorld, RepliesAreAnswers, RulingsAreDecisions};
+ghost use Rattle.ph_world.specs.Laws.{AsksAreOrders, AsksOfLiveAttempts, AuthorisedOnce, DecisionsStay, Everywhere, IsLegalWorld, NeverAskedWhenSettled, RepliesAreAnswers, RulingsAreDecisions, SettledStays};
 
 /// The history is legal, and the runs in flight are its live runs.
 pub fn legal()
@@ -15,6 +15,16 @@ pub fn asks_are_orders()
 /// then.
 pub fn asks_are_of_live_attempts()
     ensures { Everywhere AsksOfLiveAttempts }
+{}
+
+/// An attempt that is settled is never asked of, whatever moves come: the asks of it are those that were made before.
+pub fn never_asked_when_settled()
+    ensures { Everywhere NeverAskedWhenSettled }
+{}
+
+/// An attempt that is settled stays settled with its ruling, whatever moves come.
+pub fn settled_stays()
+    ensures { Everywhere SettledStays }
 {}
 
 /// Each attempt that is settled is settled with the acquirer's decision on its reference.

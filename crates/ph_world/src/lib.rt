@@ -17,7 +17,7 @@ mod world;
 pub use ask::Ask;
 pub use laws::{
     asks_are_of_live_attempts, asks_are_orders, authorised_once, decisions_stay, legal,
-    replies_are_answers, rulings_are_decisions,
+    never_asked_when_settled, replies_are_answers, rulings_are_decisions, settled_stays,
 };
 pub use moves::{Move, WorldError};
 pub use world::World;

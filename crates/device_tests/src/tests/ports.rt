@@ -8,7 +8,7 @@ use std::test::Fail;
 use std::thread::{Threads, join};
 
 /// Writes back the first bytes that each connection of a gate sends. Answers how many it served.
-fn echo<G: Gate>(gate: &mut G) -> Result<u32, GateFailed> {
+pub(super) fn echo<G: Gate>(gate: &mut G) -> Result<u32, GateFailed> {
     let mut served = 0u32;
     for _ in 0..u64::MAX {
         let Some(mut conn) = gate.next()? else {
