@@ -3,14 +3,17 @@
 #![tactic(auto)]
 
 mod help;
+mod meter;
 mod once;
+mod replaying;
 mod serve;
 mod signing;
 mod words;
 
 use once::once;
-use ph_base::NoMemory;
+use ph_base::{Bytes, NoMemory};
 use ph_host::{Plan, find_misuse, plan};
+use replaying::replaying;
 use serve::serve;
 use signing::signing;
 use std::process::ExitCode;
@@ -38,7 +41,7 @@ fn main(rt: HostRuntime) -> ExitCode {
             patience,
         ),
         Plan::Once { patience } => once(&rt, words.as_slice(), patience),
-        Plan::Usage => match signing(&rt, words.as_slice()) {
+        Plan::Usage => match beside(&rt, words.as_slice()) {
             Some(status) => status,
             None => {
                 match find_misuse(words.as_slice()) {
@@ -50,4 +53,13 @@ fn main(rt: HostRuntime) -> ExitCode {
         },
     };
     ExitCode::from(status)
+}
+
+// Runs the command that needs no host, where the words ask for one. None where they ask for something else, and then nothing is
+// read or written.
+fn beside(rt: &HostRuntime, words: &[Bytes]) -> Option<u8> {
+    match signing(rt, words) {
+        Some(status) => Some(status),
+        None => replaying(rt, words),
+    }
 }

@@ -3,4 +3,5 @@ pub mod WrittenLemmas
 pub mod GrammarLemmas
 pub mod TextLemmas
 pub mod ReadLemmas
+pub mod FaultLemmas
 pub mod OnlyLemmas

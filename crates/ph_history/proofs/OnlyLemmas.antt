@@ -89,7 +89,7 @@ leaves_more lines rest more (inr (inr whole)) = inr (inr (whole.0, λ none. whol
     front_of_none [] ys h = refl
     front_of_none (x ∷ xs) ys h = absurd (let sizes = ap length h in let never : suc (length (xs ++ ys)) ≡ 0 = sizes in omega arith)
 
-bad_more : (bytes more : List ℕ) (at : ℕ) → IsBadAt bytes at → IsBadAt (bytes ++ more) at
+pub bad_more : (bytes more : List ℕ) (at : ℕ) → IsBadAt bytes at → IsBadAt (bytes ++ more) at
 bad_more bytes more at bad = record {
   lines = bad.lines;
   rest = bad.rest ++ more;

@@ -1,5 +1,5 @@
 //! What is written of a history is read as that history, and as nothing else.
-ghost use Rattle.std.specs.Prelude.{◌≡◌, ℕ, List};
+ghost use Rattle.std.specs.Prelude.{◌≡◌, ℕ, List, ◌++◌};
 ghost use Rattle.ph_history.specs.Grammar.{IsBadAt, IsCut, IsText, IsWritten};
 ghost use Rattle.ph_history.specs.Text.{History, history_text};
 
@@ -26,4 +26,19 @@ pub fn text_is_not_bad()
 /// A history's text isn't cut.
 pub fn text_is_not_cut()
     ensures { (bytes : List ℕ) (history : History) → IsText bytes history → IsCut bytes → ⊥ }
+{}
+
+/// Bytes leave the form at one line alone.
+pub fn bad_line_is_one()
+    ensures { (bytes : List ℕ) (at other : ℕ) → IsBadAt bytes at → IsBadAt bytes other → at ≡ other }
+{}
+
+/// Bytes that leave the form leave it at that line, whatever follows them.
+pub fn bad_line_stays()
+    ensures { (bytes more : List ℕ) (at : ℕ) → IsBadAt bytes at → IsBadAt (bytes ++ more) at }
+{}
+
+/// Bytes that are cut leave the form at no line.
+pub fn cut_is_not_bad()
+    ensures { (bytes : List ℕ) (at : ℕ) → IsCut bytes → IsBadAt bytes at → ⊥ }
 {}

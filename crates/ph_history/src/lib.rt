@@ -14,7 +14,8 @@ mod writing;
 pub use faults::HistoryFault;
 pub use fits::{history_fits, what_is_written_is_read};
 pub use laws::{
-    text_is_not_bad, text_is_not_cut, text_is_of_one, text_is_written, written_is_text,
+    bad_line_is_one, bad_line_stays, cut_is_not_bad, text_is_not_bad, text_is_not_cut,
+    text_is_of_one, text_is_written, written_is_text,
 };
 pub use reading::read_history;
 pub use worked::a_create;

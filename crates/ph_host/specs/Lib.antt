@@ -3,6 +3,7 @@ pub mod Means
 pub mod Options
 pub mod Plans
 pub mod Runs
+pub mod Endings
 pub mod Servers
 pub mod Setups
 pub mod Visits

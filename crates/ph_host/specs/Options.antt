@@ -1,5 +1,5 @@
 -- The options of the command line, and the values that they take.
-use Rattle.std.specs.Prelude.{ℕ, Bool, true, false, ◌&&◌, nat_le, bytes_eq, if◌then◌else◌, List, [], ◌∷◌, length, take, codes, Option, Some, None, is_some, is_none, find}
+use Rattle.std.specs.Prelude.{ℕ, Bool, true, false, not, ◌&&◌, nat_le, bytes_eq, if◌then◌else◌, List, [], ◌∷◌, length, take, codes, Option, Some, None, is_some, is_none, find}
 use Rattle.std.specs.List.{list_all}
 use Rattle.ph_base.specs.Numbers.{number_in}
 use Rattle.ph_items.specs.Clocks.{clock_limit}
@@ -105,18 +105,33 @@ is_value_of (Some name) value = is_value name value
 abbrev pub takes : Command → List ℕ → List ℕ → Bool
 takes command word value = is_value_of (option_of command word) value
 
--- the value that is given for the option that is written so, where each option stands before its value
+-- the option that takes no value: the history is to be written
+abbrev pub is_history : List ℕ → Bool
+is_history word = bytes_eq word (codes "--history")
+
+-- the option that takes no value stands among the words, where each other option stands before its value
+abbrev pub asks_history : List (List ℕ) → Bool
+asks_history [] = false
+asks_history (word ∷ []) = is_history word
+asks_history (word ∷ value ∷ words) = if is_history word then true else asks_history words
+
+-- the value that is given for the option that is written so, where each option stands before its value, but the one that takes none
 abbrev pub given : List ℕ → List (List ℕ) → Option (List ℕ)
 given word [] = None
 given word (other ∷ []) = None
-given word (other ∷ value ∷ words) = if bytes_eq other word then Some value else given word words
+given word (other ∷ value ∷ words) =
+    if is_history other then given word (value ∷ words)
+    else if bytes_eq other word then Some value
+    else given word words
 
 -- the option that is written so takes the value, and isn't given again among the words behind it
 unfoldable pub is_option : Command → List ℕ → List ℕ → List (List ℕ) → Bool
 is_option command word value words = takes command word value && is_none (given word words)
 
--- the words are options of the command, each before a value that it takes, and none is given twice
+-- the words are options of the command, each before a value that it takes, and none is given twice; the one that takes no value is a server's
 abbrev pub are_options : Command → List (List ℕ) → Bool
 are_options command [] = true
-are_options command (word ∷ []) = false
-are_options command (word ∷ value ∷ words) = is_option command word value words && are_options command words
+are_options command (word ∷ []) = is_history word && is_serve command
+are_options command (word ∷ value ∷ words) =
+    if is_history word then is_serve command && not (asks_history (value ∷ words)) && are_options command (value ∷ words)
+    else is_option command word value words && are_options command words

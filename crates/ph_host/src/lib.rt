@@ -3,6 +3,8 @@
 #![tactic(auto)]
 
 mod commands;
+mod endings;
+mod flags;
 mod gates;
 mod host;
 mod misuses;

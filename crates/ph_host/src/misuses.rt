@@ -1,10 +1,11 @@
 //! What is wrong with words that ask for nothing that payhost does.
-ghost use Rattle.std.specs.Prelude.{◌≡◌, is_none, is_some};
-ghost use Rattle.ph_host.specs.Options.{are_options};
+ghost use Rattle.std.specs.Prelude.{◌≡◌, ◌&&◌, is_none, is_some, not};
+ghost use Rattle.ph_host.specs.Options.{are_options, asks_history, is_history, is_serve};
 ghost use Rattle.ph_host.specs.Plans.{host_if, is_planned, plan_of, port_of};
 ghost use Rattle.ph_host.specs.declared.commands.Command.TheVariants.{Serve};
 
 use crate::commands::Command;
+use crate::flags::{asks_history, has_history, is_history};
 use crate::option_names::OptionName;
 use crate::options::{is_option, option_of, takes};
 use crate::planning::port;
@@ -64,9 +65,14 @@ fn option_misuse(command: Command, words: &[Bytes]) -> Option<Misuse<'_>>
 {
     match words {
         [] => None,
-        [word] => Some(alone(command, word.as_slice())),
+        [word] => alone(command, word.as_slice()),
         [word, value, behind @ ..] => {
-            if is_option(command, word.as_slice(), value.as_slice(), behind) {
+            if is_history(word.as_slice()) {
+                match flag_misuse(command, word.as_slice(), &words[1..]) {
+                    Some(misuse) => Some(misuse),
+                    None => option_misuse(command, &words[1..]),
+                }
+            } else if is_option(command, word.as_slice(), value.as_slice(), behind) {
                 option_misuse(command, behind)
             } else if takes(command, word.as_slice(), value.as_slice()) {
                 Some(Misuse::Twice(word.as_slice()))
@@ -77,12 +83,30 @@ fn option_misuse(command: Command, words: &[Bytes]) -> Option<Misuse<'_>>
     }
 }
 
-// What is wrong with a last word that should have a value behind it.
-fn alone(command: Command, word: &[u8]) -> Misuse<'_> {
-    match option_of(command, word) {
+// What is wrong with the option that takes no value, before these words.
+fn flag_misuse<'w>(command: Command, word: &'w [u8], behind: &[Bytes]) -> Option<Misuse<'w>>
+    ensures { is_none result ≡ (is_serve command && not (asks_history behind.now)) }
+{
+    if !has_history(command) {
+        Some(Misuse::NoSuchOption(word))
+    } else if asks_history(behind) {
+        Some(Misuse::Twice(word))
+    } else {
+        None
+    }
+}
+
+// What is wrong with a last word: but for the option that takes none, it should have a value behind it.
+fn alone(command: Command, word: &[u8]) -> Option<Misuse<'_>>
+    ensures { is_none result ≡ (is_history word.now && is_serve command) }
+{
+    if is_history(word) && has_history(command) {
+        return None;
+    }
+    Some(match option_of(command, word) {
         Some(name) => Misuse::NoValue(name),
         None => Misuse::NoSuchOption(word),
-    }
+    })
 }
 
 // Why an option doesn't take a value.

@@ -4,6 +4,7 @@ ghost use Rattle.std.specs.List.{list_all};
 ghost use Rattle.ph_host.specs.Options.{are_options, connections_in, given, is_api_key, is_option, is_value, is_visible, moment_in, number_between, option_of, patience_in, port_in, takes, workers_in};
 
 use crate::commands::Command;
+use crate::flags::{asks_history, has_history, is_history};
 use crate::option_names::{OptionName, has};
 use ph_base::{Bytes, read_number};
 use ph_items::CLOCK_LIMIT;
@@ -20,15 +21,24 @@ const MOST_WORKERS: u64 = 16;
 // How many connections a worker serves at most.
 const MOST_CONNECTIONS: u64 = 1_000_000;
 
-/// Whether the words are options of a command, each before a value that it takes, and none given twice.
+/// Whether the words are options of a command, each before a value that it takes, and none given twice. One option takes no
+/// value.
 pub fn are_options(command: Command, words: &[Bytes]) -> bool
     ensures { result ≡ are_options command words.now }
 {
     match words {
         [] => true,
-        [_] => false,
-        [word, value, behind @ ..] => is_option(command, word.as_slice(), value.as_slice(), behind)
-            && are_options(command, behind),
+        [word] => is_history(word.as_slice()) && has_history(command),
+        [word, value, behind @ ..] => {
+            if is_history(word.as_slice()) {
+                has_history(command)
+                    && !asks_history(&words[1..])
+                    && are_options(command, &words[1..])
+            } else {
+                is_option(command, word.as_slice(), value.as_slice(), behind)
+                    && are_options(command, behind)
+            }
+        }
     }
 }
 
@@ -40,16 +50,20 @@ pub fn is_option(command: Command, word: &[u8], value: &[u8], behind: &[Bytes]) 
     takes(command, word, value) && given(word, behind).is_none()
 }
 
-/// The value that the words give for the option that is written so, where each option stands before its value.
+/// The value that the words give for the option that is written so, where each option stands before its value,
+/// but the one that takes none.
 pub fn given<'w>(word: &[u8], words: &'w [Bytes]) -> Option<&'w [u8]>
     ensures { option_map (λ value. value.now) result ≡ given word.now words.now }
 {
     let mut rest = words;
     while let [other, value, behind @ ..] = rest {
-        if other.as_slice() == word {
+        if is_history(other.as_slice()) {
+            rest = &rest[1..];
+        } else if other.as_slice() == word {
             return Some(value.as_slice());
+        } else {
+            rest = behind;
         }
-        rest = behind;
     }
     None
 }

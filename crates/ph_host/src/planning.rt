@@ -28,9 +28,10 @@ const CONNECTIONS: u32 = 1_000_000;
 /// 1970, at most 253402300799, and 1700000000 where it isn't given. `N` says how many further polls are granted each
 /// time that the acquirer is asked to rule, at most 1000000, and 1000 where it isn't given.
 ///
-/// `serve --port P [--workers W] [--connections C]`, with the same options beside, asks for a server on the port P, from 1 to
-/// 65535, whose W workers, from 1 to 16 and 4 where they aren't given, serve C connections each, from 1 to 1000000 and
-/// 1000000 where they aren't given. Any other words are `Usage`.
+/// `serve --port P [--workers W] [--connections C] [--history]`, with the same options beside, asks for a server on the port P,
+/// from 1 to 65535, whose W workers, from 1 to 16 and 4 where they aren't given, serve C connections each, from 1 to 1000000 and
+/// 1000000 where they aren't given. `--history` takes no value: at its end the server then writes its history before the
+/// summary. Any other words are `Usage`.
 pub fn plan(words: &[Bytes]) -> Plan
     ensures { result ≡ plan_of words.now }
 {

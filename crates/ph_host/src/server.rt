@@ -7,24 +7,25 @@ ghost use Rattle.ph_book.specs.History.{doings_of};
 ghost use Rattle.ph_book.specs.Hosts.{IsLawful};
 ghost use Rattle.ph_book.specs.Legal.{IsLegal};
 ghost use Rattle.ph_conn.specs.Laws.{AuthorisedOnce, HoldLaws};
-ghost use Rattle.ph_drill.specs.Summary.{summary_of};
+ghost use Rattle.ph_host.specs.Endings.{end_text, wants_history};
 ghost use Rattle.ph_host.specs.KeyLaws.{HoldKeyLaws};
 ghost use Rattle.ph_host.specs.Plans.{WritesUsage, is_host_of, plan_of};
 ghost use Rattle.ph_host.specs.Servers.{IsNewPass, ServedBy, Tells, WorksBy, status_of_ends};
 ghost use Rattle.ph_host.specs.Setups.{setup_of};
 ghost use Rattle.ph_host.specs.declared.workers.WorkerEnd.TheVariants as WorkerEnd;
 
+use crate::endings::write_end;
+use crate::flags::asks_history;
 use crate::gates::serve_gate;
 use crate::planning::plan;
 use crate::plans::Plan;
-use crate::setups::book;
+use crate::setups::{book, options};
 use crate::usage::usage;
 use crate::workers::{Worker, WorkerEnd};
 use ph_bank::{Acquirer, Patience};
 use ph_base::{Bytes, NoMemory};
 use ph_book::{Book, Hosted};
 use ph_conn::TalkRules;
-use ph_drill::write_summary;
 use ph_io::{Gate, Sink};
 use ph_lock::{Lock, Pass};
 use std::alloc::Global;
@@ -38,14 +39,14 @@ const LIMIT: u32 = 1_000;
 /// status and the book, which nobody else has then; there is none with status 2, or with 6 where there was no memory for it.
 ///
 /// Each worker serves the connections of its gate one after another, in a thread of its own where one can be made, and all of
-/// them act on one book. A session serves at most 1,000 requests. When all have ended, the summary of the book's history is
-/// written to the output. The status is
+/// them act on one book. A session serves at most 1,000 requests. When all have ended, the text of the book's
+/// history is written to the output, where `--history` asks for it, and then the summary. The status is
 ///
 /// | status | where |
 /// |---|---|
 /// | 0 | the gate of each worker has no more connections |
 /// | 2 | the words ask for no server, or for another number of workers: the output is the usage line |
-/// | 4 | a write of the summary failed |
+/// | 4 | a write failed |
 /// | 6 | there was no memory |
 /// | 7 | a gate failed |
 /// | 9 | the history had no room for a request |
@@ -91,13 +92,17 @@ pub fn run_host<
     // finds, for a day, what the first one came to, and begins no attempt.
     ensures keys { IfSome result.1 (λ book. HoldKeyLaws book.setup) }
 
-    // The summary of its history was written, and the status is that of the workers' ends; or a write of it failed.
-    ensures summary { IfSome result.1 (λ book. Tells (map (λ worker. worker.end) workers.new) result.0 (summary_of book.setup book.history) (K.sink output.old) (K.sink output.new)) }
+    // The text of its history was written, where the words ask for it, and then the summary, and the status is that of the workers'
+    // ends; or a write of it failed.
+    ensures summary { IfSome result.1 (λ book. Tells (map (λ worker. worker.end) workers.new) result.0 (end_text (wants_history words.now) book.setup book.history) (K.sink output.old) (K.sink output.new)) }
 {
     match plan(words) {
         Plan::Host { workers: count, .. } if workers.len() == usize::from(count) => {
             match book(alloc, words) {
-                Ok(book) => host(rt, alloc, book, workers, output),
+                Ok(book) => {
+                    let history = asks_history(options(words));
+                    host(rt, alloc, book, history, workers, output)
+                }
                 Err(NoMemory) => (6, None),
             }
         }
@@ -105,7 +110,7 @@ pub fn run_host<
     }
 }
 
-// Runs the workers over one book, and writes the summary.
+// Runs the workers over one book, and writes its history, where it is asked for, and the summary.
 fn host<
     R: Threads + Wait + Sync,
     G: Gate<Conn: Send> + Send,
@@ -116,6 +121,7 @@ fn host<
     rt: &R,
     alloc: Global,
     book: Book,
+    history: bool,
     workers: &mut [Worker<G, A, P, Book>],
     output: &mut K,
 ) -> (u8, Option<Book>)
@@ -129,7 +135,7 @@ fn host<
     ensures laws { IfSome result.1 (λ closed. IsLegal closed.setup closed.history × HoldLaws (doings_of closed.setup closed.history)) }
     ensures authorised_once { IfSome result.1 (λ closed. All (λ worker. AuthorisedOnce (doings_of closed.setup closed.history) (A.link worker.link)) workers.new) }
     ensures keys { IfSome result.1 (λ closed. HoldKeyLaws closed.setup) }
-    ensures summary { IfSome result.1 (λ closed. Tells (map (λ worker. worker.end) workers.new) result.0 (summary_of closed.setup closed.history) (K.sink output.old) (K.sink output.new)) }
+    ensures summary { IfSome result.1 (λ closed. Tells (map (λ worker. worker.end) workers.new) result.0 (end_text history closed.setup closed.history) (K.sink output.old) (K.sink output.new)) }
 {
     let (lock, mut first) = match Lock::new(alloc, book) {
         Ok(made) => made,
@@ -139,7 +145,7 @@ fn host<
     serve_all(rt, alloc, &lock, workers);
     join_each(&lock, &mut first, workers);
     let (book, _) = lock.close(rt, first);
-    match write_summary(&book, output) {
+    match write_end(&book, history, output) {
         Ok(()) => (status(workers), Some(book)),
         Err(_) => (4, Some(book)),
     }

@@ -1,5 +1,5 @@
 -- Where a history stops being legal.
-use Rattle.std.proofs.Common.{◌≡◌, ℕ, ◌+◌, ◌<◌, inl, inr, true, false, List, [], ◌∷◌, ◌++◌, length, get_or, take, drop, Some, None, refl, sym, ap, ◌∙◌, subst, append_assoc, arith, IsTrue}
+use Rattle.std.proofs.Common.{◌≡◌, ℕ, ◌+◌, ◌<◌, ◌⊎◌, inl, inr, true, false, List, [], ◌∷◌, ◌++◌, length, get_or, take, drop, Some, None, refl, sym, ap, ◌∙◌, subst, append_assoc, arith, IsTrue}
 use Rattle.std.specs.List.{fold}
 use Rattle.std.proofs.lemmas.List.{at_drop_more, length-take-le, take-append-drop, take_more}
 use Rattle.ph_base.specs.declared.acquirer.Ruling.{Ruling}
@@ -40,6 +40,35 @@ illegal_never setup entries at (inl late) legal = late.0 legal.opened
 illegal_never setup entries at (inr ends) legal =
     let parts = ends.parts ∙ sym (append_assoc ends.before (ends.entry ∷ []) ends.behind) in
     ends.not_legal (legal_front setup (ends.before ++ ends.entry ∷ []) ends.behind (subst (IsLegal setup) parts legal))
+
+-- where two places of a list stand: at one, or the first before the second, or behind it
+two_places : {E : Type 0} (xs ys rs ss : List E) (x y : E) → xs ++ x ∷ rs ≡ ys ++ y ∷ ss
+    → (length xs ≡ length ys) ⊎ ((more : List E) × (ys ≡ (xs ++ x ∷ []) ++ more)) ⊎ ((more : List E) × (xs ≡ (ys ++ y ∷ []) ++ more))
+two_places [] [] rs ss x y same = inl refl
+two_places [] (z ∷ ys) rs ss x y same = inr (inl (ys, let head : x ≡ z = cc in ap (λ h. h ∷ ys) (sym head)))
+two_places (z ∷ xs) [] rs ss x y same = inr (inr (xs, let head : z ≡ y = cc in ap (λ h. h ∷ xs) head))
+two_places {E} (z ∷ xs) (w ∷ ys) rs ss x y same =
+    let head : z ≡ w = cc in
+    let tail : xs ++ x ∷ rs ≡ ys ++ y ∷ ss = cc in
+    cases head (two_places xs ys rs ss x y tail)
+  where
+    cases : z ≡ w → (length xs ≡ length ys) ⊎ ((more : List E) × (ys ≡ (xs ++ x ∷ []) ++ more)) ⊎ ((more : List E) × (xs ≡ (ys ++ y ∷ []) ++ more))
+        → (length (z ∷ xs) ≡ length (w ∷ ys)) ⊎ ((more : List E) × (w ∷ ys ≡ ((z ∷ xs) ++ x ∷ []) ++ more)) ⊎ ((more : List E) × (z ∷ xs ≡ ((w ∷ ys) ++ y ∷ []) ++ more))
+    cases head (inl long) = inl (omega (arith, long))
+    cases head (inr (inl first)) = inr (inl (first.0, ap (λ l. w ∷ l) first.1 ∙ ap (λ h. h ∷ ((xs ++ x ∷ []) ++ first.0)) (sym head)))
+    cases head (inr (inr behind)) = inr (inr (behind.0, ap (λ l. z ∷ l) behind.1 ∙ ap (λ h. h ∷ ((ys ++ y ∷ []) ++ behind.0)) head))
+
+-- the first line that isn't legal is one
+pub illegal_one : (setup : Setup) (entries : List Entry) (at other : ℕ) → IsIllegalAt setup entries at → IsIllegalAt setup entries other → at ≡ other
+illegal_one setup entries at other (inl late) (inl also) = late.1 ∙ sym also.1
+illegal_one setup entries at other (inl late) (inr ends) = absurd (late.0 ends.legal.opened)
+illegal_one setup entries at other (inr ends) (inl late) = absurd (late.0 ends.legal.opened)
+illegal_one setup entries at other (inr a) (inr b) = cases (two_places a.before b.before a.behind b.behind a.entry b.entry (sym a.parts ∙ b.parts))
+  where
+    cases : (length a.before ≡ length b.before) ⊎ ((more : List Entry) × (b.before ≡ (a.before ++ a.entry ∷ []) ++ more)) ⊎ ((more : List Entry) × (a.before ≡ (b.before ++ b.entry ∷ []) ++ more)) → at ≡ other
+    cases (inl long) = a.place ∙ ap (λ n. n + 3) long ∙ sym b.place
+    cases (inr (inl first)) = absurd (a.not_legal (legal_front setup (a.before ++ a.entry ∷ []) first.0 (subst (IsLegal setup) first.1 b.legal)))
+    cases (inr (inr behind)) = absurd (b.not_legal (legal_front setup (b.before ++ b.entry ∷ []) behind.0 (subst (IsLegal setup) behind.1 a.legal)))
 
 -- ---- why an entry may not come
 

@@ -1,5 +1,5 @@
 //! What holds of every history that is entered anew.
-ghost use Rattle.std.specs.Prelude.{ℕ, ◌<◌, ◌^◌, List};
+ghost use Rattle.std.specs.Prelude.{◌≡◌, ℕ, ◌<◌, ◌^◌, List};
 ghost use Rattle.ph_book.specs.declared.acts.Entry.{Entry};
 ghost use Rattle.ph_book.specs.declared.setup.Setup.{Setup};
 ghost use Rattle.ph_book.specs.Laws.{RunsFollow};
@@ -12,6 +12,11 @@ use ph_book::{Book, history_is_legal, runs_follow};
 /// A history with a line that isn't legal isn't legal.
 pub fn illegal_is_not_legal()
     ensures { (setup : Setup) (entries : List Entry) (at : ℕ) → IsIllegalAt setup entries at → IsLegal setup entries → ⊥ }
+{}
+
+/// A history has one first line that isn't legal.
+pub fn illegal_line_is_one()
+    ensures { (setup : Setup) (entries : List Entry) (at other : ℕ) → IsIllegalAt setup entries at → IsIllegalAt setup entries other → at ≡ other }
 {}
 
 // A setup has room for fewer than 2^32 entries.

@@ -9,9 +9,11 @@ mod replaying;
 mod tickets;
 mod told;
 mod unentered;
+mod watches;
 
-pub use laws::illegal_is_not_legal;
+pub use laws::{illegal_is_not_legal, illegal_line_is_one};
 pub use lines::write_replies;
 pub use replayed::Replayed;
 pub use replaying::replay;
 pub use told::Told;
+pub use watches::{Unwatched, Watch};

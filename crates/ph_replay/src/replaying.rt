@@ -7,6 +7,7 @@ ghost use Rattle.ph_replay.specs.Told.{told_of};
 
 use crate::replayed::Replayed;
 use crate::unentered::Unentered;
+use crate::watches::Watch;
 use ph_base::NoMemory;
 use ph_book::{Entry, Setup};
 use ph_history::HistoryFault;
@@ -18,8 +19,14 @@ use std::alloc::Global;
 /// It answers with the book exactly where they are a legal history; then its history is that one, all of its replies are
 /// told, and the tickets are those of its live runs. Where they aren't one, it answers `Illegal` with the line that the
 /// first entry at fault has in the history's text: the setup stands in line 2, where no book opens at its moment, and
-/// the first entry in line 3. It may instead answer that there was no memory, and answers nothing else.
-pub fn replay(alloc: Global, setup: Setup, entries: &[Entry]) -> Result<Replayed, HistoryFault>
+/// the first entry in line 3. It may instead answer that there was no memory, and answers nothing else. Before each entry
+/// the watch is told how far it is.
+pub fn replay<W: Watch>(
+    alloc: Global,
+    setup: Setup,
+    entries: &[Entry],
+    watch: &mut W,
+) -> Result<Replayed, HistoryFault>
     ensures history { IfOk result (λ replayed. replayed.book ≡ record { setup = setup; history = entries.now }) }
     ensures replies { IfOk result (λ replayed. replayed.replies ≡ told_of setup entries.now) }
     ensures tickets { IfOk result (λ replayed. replayed.tickets ≡ runs_of setup entries.now) }
@@ -34,6 +41,7 @@ pub fn replay(alloc: Global, setup: Setup, entries: &[Entry]) -> Result<Replayed
         Err(NoMemory) => return Err(HistoryFault::NoMemory),
     };
     for (i, entry) in entries.iter().enumerate() {
+        watch.entered(i as u64, entries.len() as u64);
         replayed.lawful();
         match replayed.enter(alloc, entry) {
             Ok(()) => {}

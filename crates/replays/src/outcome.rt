@@ -4,7 +4,7 @@ use ph_base::NoMemory;
 use ph_book::{Entry, Setup};
 use ph_history::{HistoryFault, read_history, write_history};
 use ph_io::{MemSink, MemSource, WriteFailed};
-use ph_replay::{Replayed, replay, write_replies};
+use ph_replay::{Replayed, Unwatched, replay, write_replies};
 use std::alloc::Global;
 
 /// A text, and how it is read.
@@ -70,7 +70,7 @@ pub fn outcome_of(alloc: Global, input: &Input<'_>) -> Result<Outcome, NoMemory>
     };
     let again = again(alloc, &setup, entries.as_slice(), input.bytes)?;
     let count = entries.len();
-    match replay(alloc, setup, entries.as_slice()) {
+    match replay(alloc, setup, entries.as_slice(), &mut Unwatched) {
         Ok(replayed) => {
             let line = counted(alloc, count, again, &replayed);
             let replies = replies(alloc, &replayed);

@@ -1,6 +1,7 @@
 //! What no session shows: several workers over one book.
 
 mod gates;
+mod histories;
 mod link;
 mod sockets;
 mod told;

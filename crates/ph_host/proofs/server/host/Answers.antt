@@ -31,8 +31,8 @@ status-requires g c = record {
       c.join_each.ensures.joined;
 }
 
-pub returns-in-Ok-write_summary-clause-workers : goal.returns-in-Ok-write_summary-clause-workers
-returns-in-Ok-write_summary-clause-workers g c =
+pub returns-in-Ok-write_end-clause-workers : goal.returns-in-Ok-write_end-clause-workers
+returns-in-Ok-write_end-clause-workers g c =
     let first = c.in-Ok.ensures.first in
     let base = ap (λ p. p.base) first in
     let front = ap (λ p. p.front) first ∙ c.requires.empty in (
@@ -53,8 +53,8 @@ returns-in-Ok-write_summary-clause-workers g c =
           c.split_each.ensures.passes c.serve_all.ensures.served c.join_each.ensures.joined,
     )
 
-pub returns-in-Err-write_summary-clause-workers : goal.returns-in-Err-write_summary-clause-workers
-returns-in-Err-write_summary-clause-workers g c =
+pub returns-in-Err-write_end-clause-workers : goal.returns-in-Err-write_end-clause-workers
+returns-in-Err-write_end-clause-workers g c =
     let first = c.in-Ok.ensures.first in
     let base = ap (λ p. p.base) first in
     let front = ap (λ p. p.front) first ∙ c.requires.empty in (
@@ -75,26 +75,26 @@ returns-in-Err-write_summary-clause-workers g c =
           c.split_each.ensures.passes c.serve_all.ensures.served c.join_each.ensures.joined,
     )
 
-pub returns-in-Ok-write_summary-clause-laws : goal.returns-in-Ok-write_summary-clause-laws
-returns-in-Ok-write_summary-clause-laws g c =
+pub returns-in-Ok-write_end-clause-laws : goal.returns-in-Ok-write_end-clause-laws
+returns-in-Ok-write_end-clause-laws g c =
     let lawful = c.close-book.ensures.lawful in
     (lawful.legal, laws_hold _ _ lawful.few lawful.legal)
 
-pub returns-in-Ok-write_summary-clause-authorised_once : goal.returns-in-Ok-write_summary-clause-authorised_once
-returns-in-Ok-write_summary-clause-authorised_once g c =
+pub returns-in-Ok-write_end-clause-authorised_once : goal.returns-in-Ok-write_end-clause-authorised_once
+returns-in-Ok-write_end-clause-authorised_once g c =
     all_any _ _ (λ w. once_by _ _ (g.A.Acquirer.link w.link) c.close-book.ensures.lawful)
 
-pub returns-in-Err-write_summary-clause-laws : goal.returns-in-Err-write_summary-clause-laws
-returns-in-Err-write_summary-clause-laws g c =
+pub returns-in-Err-write_end-clause-laws : goal.returns-in-Err-write_end-clause-laws
+returns-in-Err-write_end-clause-laws g c =
     let lawful = c.close-book.ensures.lawful in
     (lawful.legal, laws_hold _ _ lawful.few lawful.legal)
 
-pub returns-in-Err-write_summary-clause-authorised_once : goal.returns-in-Err-write_summary-clause-authorised_once
-returns-in-Err-write_summary-clause-authorised_once g c =
+pub returns-in-Err-write_end-clause-authorised_once : goal.returns-in-Err-write_end-clause-authorised_once
+returns-in-Err-write_end-clause-authorised_once g c =
     all_any _ _ (λ w. once_by _ _ (g.A.Acquirer.link w.link) c.close-book.ensures.lawful)
 
-pub returns-in-Ok-write_summary-clause-keys : goal.returns-in-Ok-write_summary-clause-keys
-returns-in-Ok-write_summary-clause-keys g c = key_laws_hold _ c.close-book.ensures.lawful.few
+pub returns-in-Ok-write_end-clause-keys : goal.returns-in-Ok-write_end-clause-keys
+returns-in-Ok-write_end-clause-keys g c = key_laws_hold _ c.close-book.ensures.lawful.few
 
-pub returns-in-Err-write_summary-clause-keys : goal.returns-in-Err-write_summary-clause-keys
-returns-in-Err-write_summary-clause-keys g c = key_laws_hold _ c.close-book.ensures.lawful.few
+pub returns-in-Err-write_end-clause-keys : goal.returns-in-Err-write_end-clause-keys
+returns-in-Err-write_end-clause-keys g c = key_laws_hold _ c.close-book.ensures.lawful.few
