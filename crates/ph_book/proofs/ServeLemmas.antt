@@ -42,16 +42,8 @@ zero_not_parked state sound (Some row) is = absurd (latest_has_begun state 0 row
 
 -- the item that is an attempt's version
 item_of : (it : Item) (one : Attempt) → attempt_in it ≡ Some one → it ≡ item.Attempt one
-item_of (item.Account account) one is = absurd (cc)
-item_of (item.Intent intent) one is = absurd (cc)
 item_of (item.Attempt attempt) one is = let same : attempt ≡ one = cc in ap item.Attempt same
-item_of (item.Charge charge) one is = absurd (cc)
-item_of (item.Refund refund) one is = absurd (cc)
-item_of (item.Dispute dispute) one is = absurd (cc)
-item_of (item.Transfer transfer) one is = absurd (cc)
-item_of (item.Fee fee) one is = absurd (cc)
-item_of (item.Txn txn) one is = absurd (cc)
-item_of (item.Event event) one is = absurd (cc)
+item_of other one is = absurd (cc)
 
 ruled_not_parked : (how : Ruling) → is_state_parked (state_shown (attempt.Settled how)) ≡ false
 ruled_not_parked ruling.Approved = refl

@@ -4,8 +4,8 @@ ghost use Rattle.ph_book.specs.Tickets.{Holds};
 use ph_attempts::Ticket;
 use ph_base::{Bytes, Kind, NoMemory, Why};
 use ph_book::{
-    Act, Answer, Book, Deed, Setup, balances_are_sums, disputes_move_once, history_is_legal,
-    ids_differ, refunds_fit,
+    Act, Answer, Book, Deed, Setup, balances_are_sums, disputes_move_once, fee_refunds_fit,
+    history_is_legal, ids_differ, refunds_fit, reversals_fit, transfers_fit,
 };
 use ph_http::Raw;
 use ph_rows::{Row, View};
@@ -111,6 +111,9 @@ fn a_history_keeps_the_laws(rt: HostRuntime) -> Result<(), Fail> {
     ids_differ(book.setup(), book.history());
     balances_are_sums(book.setup(), book.history());
     refunds_fit(book.setup(), book.history());
+    transfers_fit(book.setup(), book.history());
+    reversals_fit(book.setup(), book.history());
+    fee_refunds_fit(book.setup(), book.history());
     disputes_move_once(book.setup(), book.history());
     assert_eq!(rt; book.history().len(), 0);
     Ok(())
