@@ -1,19 +1,18 @@
 -- What an input came to is what its bytes come to.
-use Rattle.std.proofs.Common.{◌≡◌, ℕ, ◌⊎◌, inl, inr, List, ◌++◌, Option, Some, None, Err, refl, sym, ap, subst, ◌∙◌}
+use Rattle.std.proofs.Common.{◌≡◌, ℕ, ◌⊎◌, inl, inr, List, ◌++◌, Option, Some, None, refl, sym, ap, subst, ◌∙◌}
 use Rattle.ph_io.specs.Told.{SourceState, SinkState, preceded_by}
 use Rattle.ph_io.specs.Reads.{Moves, EndsAfter}
 use Rattle.ph_io.proofs.DeviceLemmas.{ends_after_all}
 use Rattle.ph_book.specs.Legal.{IsLegal}
 use Rattle.ph_lines.proofs.FieldLemmas.{some_is}
-use Rattle.ph_history.specs.Grammar.{IsBadAt, IsCut, IsText, Reads}
+use Rattle.ph_history.specs.Grammar.{IsBadAt, IsCut, IsText}
 use Rattle.ph_history.specs.Text.{History}
-use Rattle.ph_history.specs.declared.faults.HistoryFault.{HistoryFault}
 use Rattle.ph_history.specs.declared.faults.HistoryFault.TheVariants as fault
 use Rattle.ph_history.proofs.FaultLemmas.{bad_line_one, cut_not_bad}
 use Rattle.ph_history.proofs.OnlyLemmas.{bad_more, text_not_bad, text_not_cut, text_of_one}
 use Rattle.ph_replay.specs.Legal.{IsIllegalAt}
 use Rattle.ph_replay.proofs.LegalLemmas.{illegal_never, illegal_one}
-use Rattle.ph_replaying.specs.Commands.{Answers, AnswersOrFails, Gives, IsOf, IsRead, IsUnentered, Outcome, Refuses, Replays}
+use Rattle.ph_replaying.specs.Commands.{Answers, AnswersOrFails, Gives, IsOf, IsRead, Outcome, Refuses, Replays}
 use Rattle.ph_replaying.specs.Commands.Outcome.{Whole, Faulty}
 
 -- it is that, or a read failed, or there was no memory
