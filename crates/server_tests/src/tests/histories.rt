@@ -1,4 +1,6 @@
 //! The history that a server writes at its end.
+ghost use Rattle.std.specs.Prelude.{◌≤◌, length};
+
 use super::words::{CREATE, PAY, RETRIEVE, conn, words};
 use ph_bank::{SimAcquirer, Turns};
 use ph_base::Bytes;
@@ -8,13 +10,16 @@ use ph_replay::Unwatched;
 use std::test::Fail;
 
 // Where the summary begins behind a history's text; at 0, where there is none.
-fn summary_at(written: &[u8]) -> usize {
+fn summary_at(written: &[u8]) -> usize
+    ensures { result ≤ length written.now }
+{
     let mut at = written.len();
     for _ in 0..written.len() {
-        if written[at.min(written.len())..].starts_with(b"entries ") {
-            return at;
+        let begins = at.min(written.len());
+        if written[begins..].starts_with(b"entries ") {
+            return begins;
         }
-        at = at.saturating_sub(1);
+        at = begins.saturating_sub(1);
     }
     0
 }
