@@ -104,6 +104,28 @@ fn add(
     }
 }
 
+// The object's number, or the status of an error.
+fn number_or_status(added: Result<u64, Refusal>) -> Result<Result<u64, u16>, NoMemory> {
+    match added {
+        Ok(object) => Ok(Ok(object)),
+        Err(Refusal::Api(error)) => Ok(Err(error.status)),
+        Err(Refusal::NoMemory) => Err(NoMemory),
+    }
+}
+
+// What a call of an account, sent to a path with a body, adds to a batch: the object's number, or the status of its error.
+fn added(
+    alloc: Global,
+    view: &ListView,
+    account: u64,
+    path: &str,
+    body: &str,
+    batch: &mut Batch,
+) -> Result<Result<u64, u16>, NoMemory> {
+    let call = call_of(alloc, path, body)?;
+    number_or_status(add(alloc, view, account, &call, batch))
+}
+
 /// What a call of an account comes to: the object's number, whose rows are entered, or the status of its error.
 pub fn come(
     alloc: Global,
@@ -112,16 +134,12 @@ pub fn come(
     path: &str,
     body: &str,
 ) -> Result<Result<u64, u16>, NoMemory> {
-    let call = call_of(alloc, path, body)?;
     let mut batch = batch_after(alloc, view);
-    match add(alloc, view, account, &call, &mut batch) {
-        Ok(object) => {
-            enter(alloc, view, batch)?;
-            Ok(Ok(object))
-        }
-        Err(Refusal::Api(error)) => Ok(Err(error.status)),
-        Err(Refusal::NoMemory) => Err(NoMemory),
+    let came = added(alloc, view, account, path, body, &mut batch)?;
+    if came.is_ok() {
+        enter(alloc, view, batch)?;
     }
+    Ok(came)
 }
 
 /// A call of an account comes to this.
